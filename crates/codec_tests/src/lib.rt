@@ -1,7 +1,9 @@
-//! Tests of what is read and written where no run of the other crates of tests does so: a frame alone, lines and traces told, and a row
-//! alone. What a run reads and writes is shown by its replies and its folder.
+//! Tests of what is read and written where no run of the other crates of tests does so: a frame alone, lines and traces told, a row alone,
+//! and bodies that no run writes. What a run reads and writes is shown by its replies and its folder.
 #![tactic(auto)]
 
+#[cfg(test)]
+mod bodies;
 #[cfg(test)]
 mod checks;
 #[cfg(test)]

@@ -12,6 +12,18 @@ const NO_TEXT: [u8; 21] = [
     3, 6, 9, 12, 0, 0, 0, 0, 7, 0, 0, 0, 0, 0, 0, 0, 1, 0, 0, 0, 255,
 ];
 
+/// A frame of each command on intercepts, with an object without members as its body: 1600, 1601, 1610 and 1611.
+const INTERCEPTS: [u8; 88] = [
+    3, 6, 9, 12, 64, 6, 0, 0, 1, 0, 0, 0, 0, 0, 0, 0, 2, 0, 0, 0, 123, 125, 3, 6, 9, 12, 65, 6, 0,
+    0, 2, 0, 0, 0, 0, 0, 0, 0, 2, 0, 0, 0, 123, 125, 3, 6, 9, 12, 74, 6, 0, 0, 3, 0, 0, 0, 0, 0, 0,
+    0, 2, 0, 0, 0, 123, 125, 3, 6, 9, 12, 75, 6, 0, 0, 4, 0, 0, 0, 0, 0, 0, 0, 2, 0, 0, 0, 123,
+    125,
+];
+
+/// The lines that tell them.
+const INTERCEPT_LINES: &str =
+    "1 SetIntercept {}\n2 ClearIntercept {}\n3 Pick {}\n4 ListClashes {}\n";
+
 // What is said of a fault, and nothing where there is none.
 fn words_of(alloc: Global, fault: Option<DecodeFault>) -> Result<String, AllocError> {
     match fault {
@@ -50,6 +62,7 @@ fn frames_are_told(rt: HostRuntime) -> Result<(), Fail> {
             "7 ok {\"no\":1}\n",
             "frame 2: unfinished at 49",
         ),
+        ([INTERCEPTS.as_slice(), b"".as_slice()], INTERCEPT_LINES, ""),
         (
             [NO_TEXT.as_slice(), b"".as_slice()],
             "",
@@ -62,13 +75,19 @@ fn frames_are_told(rt: HostRuntime) -> Result<(), Fail> {
     Ok(())
 }
 
-#[test]
-fn a_text_says_frames(rt: HostRuntime) -> Result<(), Fail> {
-    let text = b"# ann\r\n\n7 CreateIdentity {\"name\":\"ann\"}\r\n".as_slice();
-    let encoded = encode(rt.alloc(), text)?;
-    are_bytes(&rt, encoded.bytes.as_slice(), &ANN);
+// A text says frames.
+fn says(rt: &impl Abort, alloc: Global, text: &[u8], frames: &[u8]) -> Result<(), Fail> {
+    let encoded = encode(alloc, text)?;
+    are_bytes(rt, encoded.bytes.as_slice(), frames);
     assert!(rt; encoded.fault.is_none());
     Ok(())
+}
+
+#[test]
+fn a_text_says_frames(rt: HostRuntime) -> Result<(), Fail> {
+    let ann = b"# ann\r\n\n7 CreateIdentity {\"name\":\"ann\"}\r\n".as_slice();
+    says(&rt, rt.alloc(), ann, &ANN)?;
+    says(&rt, rt.alloc(), INTERCEPT_LINES.as_bytes(), &INTERCEPTS)
 }
 
 // All faults of a text are told so, and where there are none it is encoded.

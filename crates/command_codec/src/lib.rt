@@ -15,12 +15,6 @@ mod reading;
 mod role_lists;
 mod show_bodies;
 mod terminator_bodies;
-mod worked;
 
 pub use laws::{the_first_cause, what_a_body_spells};
 pub use reading::{CodecFault, read};
-pub use worked::{
-    worked_bodies, worked_causes, worked_circuits, worked_claims, worked_first_causes,
-    worked_intercept_causes, worked_intercepts, worked_links, worked_lists, worked_policies,
-    worked_policy_causes, worked_shows, worked_sides, worked_terminators,
-};

@@ -13,8 +13,8 @@ use crate::circuit_bodies::circuit_command;
 use crate::content_types::{
     COMPACT, CREATE_CIRCUIT, CREATE_IDENTITY, CREATE_LINK, CREATE_ROUTER, CREATE_SERVICE_POLICY,
     CREATE_TERMINATOR, DELETE_SERVICE, DELETE_SERVICE_EDGE_ROUTER_POLICY, DELETE_TERMINATOR,
-    DISCONNECT_ROUTER, HELLO, LIST_CLASHES, SET_INTERCEPT, SET_LEAST_ROUTER_COST, SHOW_CIRCUIT,
-    SHOW_COUNTS, SHOW_GRANTS, VERIFY_ROUTE,
+    DISCONNECT_ROUTER, HELLO, SET_LEAST_ROUTER_COST, SHOW_CIRCUIT, SHOW_COUNTS, SHOW_GRANTS,
+    VERIFY_ROUTE,
 };
 use crate::entity_bodies::{entity_command, router_command};
 use crate::intercept_bodies::intercept_command;
@@ -86,8 +86,8 @@ fn command_in(alloc: Global, content: u32, fields: &Fields) -> Result<Command, F
         CREATE_TERMINATOR..=DELETE_TERMINATOR => terminator_command(alloc, content, fields),
         CREATE_CIRCUIT..=VERIFY_ROUTE | SHOW_CIRCUIT => circuit_command(alloc, content, fields),
         SHOW_GRANTS..=SHOW_COUNTS | COMPACT => show_command(alloc, content, fields),
-        SET_INTERCEPT..=LIST_CLASHES => intercept_command(alloc, content, fields),
-        _ => Err(FieldFault::Unknown),
+        // What is left is a command on intercepts, or none.
+        _ => intercept_command(alloc, content, fields),
     }
 }
 

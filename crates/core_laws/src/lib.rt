@@ -8,7 +8,8 @@ mod worked_settling;
 
 pub use worked::{worked_changes, worked_starts};
 pub use worked_rows::{
-    claims_that_go, precedence_in_a_folder, precedences_in_rows, serials_in_batches,
+    claims_in_a_folder, claims_that_go, precedence_in_a_folder, precedences_in_rows,
+    serials_in_batches,
 };
 pub use worked_settling::{
     circuits_of_another_service, circuits_that_go, granted_circuits, kept_loads, what_settles,

@@ -14,7 +14,9 @@ ghost use Rattle.policy_store.specs.PolicyTables.{no_policies};
 ghost use Rattle.circuits.specs.CircuitTables.{no_circuits};
 ghost use Rattle.terminators.specs.TermTables.{no_terminators};
 ghost use Rattle.core_laws.specs.WorkedChanges.{ann_dials, with_dial};
-ghost use Rattle.core_stores.specs.declared.changes.Change.TheVariants.{Entity, Policy, Link};
+ghost use Rattle.core_laws.specs.WorkedRows.{any_claim};
+ghost use Rattle.intercepts.specs.declared.changes.InterceptChange.TheVariants as claim;
+ghost use Rattle.core_stores.specs.declared.changes.Change.TheVariants.{Entity, Policy, Link, Intercept};
 ghost use Rattle.entity_store.specs.declared.changes.EntityChange.TheVariants.{Add, Remove};
 ghost use Rattle.fabric_graph.specs.declared.changes.LinkChange.TheVariants.{SetLeast};
 ghost use Rattle.policy_store.specs.declared.changes.PolicyChange.TheVariants as policy;
@@ -33,5 +35,6 @@ pub fn worked_changes()
     ensures least { after_change (Link (SetLeast 20)) start ≡ record start { least_router_cost = 20 } }
     ensures forget { after_change (Entity (Remove kind.Identity 1 (codes "ann"))) with_dial ≡ record with_dial { service_policies = record { rows = (1, record ann_dials { left = carrying [] }) ∷ []; next = 2 } } }
     ensures other_kind { after_change (Entity (Remove kind.Service 1 (codes "ann"))) with_dial ≡ with_dial }
+    ensures intercept { after_change (Intercept (claim.Set (record { 0 = 1 }) any_claim)) start ≡ record start { intercepts = (1, any_claim) ∷ [] } }
     ensures policy { after_change (Policy (policy.Remove kind.ServicePolicy 1)) with_dial ≡ record start { service_policies = record { rows = []; next = 2 } } }
 {}

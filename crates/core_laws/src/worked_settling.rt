@@ -7,9 +7,10 @@ ghost use Rattle.model_laws.specs.JudgedCircuits.{AreGranted};
 ghost use Rattle.policy_store.specs.declared.changes.PolicyChange.TheVariants as policy;
 ghost use Rattle.terminators.specs.declared.changes.TermChange.TheVariants as term;
 ghost use Rattle.circuits.specs.declared.changes.CircuitChange.TheVariants as circuit;
+ghost use Rattle.intercepts.specs.declared.changes.InterceptChange.TheVariants as claim;
 ghost use Rattle.circuits.specs.WorkedCircuits.{now_over, over};
 ghost use Rattle.circuit_settling.specs.WorkedLines.{unsettled};
-ghost use Rattle.core_stores.specs.declared.changes.Change.TheVariants.{Policy, Terminator, Circuit};
+ghost use Rattle.core_stores.specs.declared.changes.Change.TheVariants.{Policy, Terminator, Circuit, Intercept};
 ghost use Rattle.core_stores.specs.declared.loads.Loads.TheVariants.{Same, More, Any};
 ghost use Rattle.core_stores.specs.OpenCircuits.{CountsBut, CountsOpen, EndThere, loads_after};
 ghost use Rattle.core_stores.specs.SettledNumbers.{SettlesNothing, without_settled};
@@ -59,6 +60,7 @@ pub fn circuits_that_go()
 pub fn where_loads_change()
     ensures policy { loads_after (Policy (policy.Remove kind.ServicePolicy 1)) nothing ≡ Same }
     ensures terminator { loads_after (Terminator (term.Remove (record { 0 = 1 }))) nothing ≡ Same }
+    ensures intercept { loads_after (Intercept (claim.Remove (record { 0 = 1 }))) nothing ≡ Same }
     ensures comes { loads_after (Circuit (circuit.Add (over []))) nothing ≡ More (record { 0 = 1 }) }
     ensures goes { loads_after (Circuit (circuit.Remove (record { 0 = 1 }))) nothing ≡ Any }
     ensures terminators { loads_after (Policy (policy.Remove kind.ServicePolicy 1)) (record nothing { terminators = 1 ∷ [] }) ≡ Any }

@@ -3,4 +3,3 @@ pub mod LaterNumbers
 pub mod SettledLaws
 pub mod LoadLaws
 pub mod SerialLaws
-pub mod ClaimLaws

@@ -13,6 +13,7 @@ use Rattle.terminators.specs.declared.changes.TermChange.{TermChange}
 use Rattle.terminators.specs.declared.changes.TermChange.TheVariants as term
 use Rattle.circuits.specs.declared.changes.CircuitChange.{CircuitChange}
 use Rattle.circuits.specs.declared.changes.CircuitChange.TheVariants as circuit
+use Rattle.intercepts.specs.declared.changes.InterceptChange.{InterceptChange}
 use Rattle.row_codec.specs.RowKeys.{kind_number}
 use Rattle.core_stores.specs.declared.changes.Change.{Change}
 use Rattle.core_stores.specs.declared.changes.Change.TheVariants as change
@@ -41,6 +42,11 @@ term_part _ = None
 abbrev pub circuit_part : Change → Option CircuitChange
 circuit_part (change.Circuit c) = Some c
 circuit_part _ = None
+
+-- The change of the intercepts.
+abbrev pub intercept_part : Change → Option InterceptChange
+intercept_part (change.Intercept c) = Some c
+intercept_part _ = None
 
 -- Whether a change adds an entity of a kind.
 abbrev pub adds_entity : Option EntityChange → Kind → Bool

@@ -7,3 +7,5 @@ pub mod OpenCircuits
 pub mod NextNumbers
 pub mod Claims
 pub mod Serials
+pub mod SaidRecords
+pub mod NewRecords

@@ -51,6 +51,7 @@ loads_by (change.Entity c) = loads.Same
 loads_by (change.Policy c) = loads.Same
 loads_by (change.Link c) = loads.Same
 loads_by (change.Terminator c) = loads.Same
+loads_by (change.Intercept c) = loads.Same
 loads_by (change.Circuit (circuit.Add c)) = loads.More (record { 0 = c.terminator })
 loads_by (change.Circuit (circuit.Remove n)) = loads.Any
 

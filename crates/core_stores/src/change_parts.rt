@@ -1,10 +1,11 @@
 ghost use Rattle.std.specs.Prelude.{◌≡◌, option_map};
-ghost use Rattle.core_stores.specs.ChangeParts.{entity_part, policy_part, link_part, term_part, circuit_part};
+ghost use Rattle.core_stores.specs.ChangeParts.{entity_part, policy_part, link_part, term_part, circuit_part, intercept_part};
 
 use crate::changes::Change;
 use circuits::CircuitChange;
 use entity_store::EntityChange;
 use fabric_graph::LinkChange;
+use intercepts::InterceptChange;
 use policy_store::PolicyChange;
 use terminators::TermChange;
 
@@ -55,6 +56,16 @@ impl Change {
     {
         match self {
             Change::Circuit(change) => Some(change),
+            _ => None,
+        }
+    }
+
+    /// The change of the intercepts, if it is one.
+    pub fn of_intercepts(&self) -> Option<&InterceptChange>
+        ensures { option_map (λ c. c.now) result ≡ intercept_part self.now }
+    {
+        match self {
+            Change::Intercept(change) => Some(change),
             _ => None,
         }
     }

@@ -1,13 +1,14 @@
 ghost use Rattle.std.specs.Prelude.{◌≡◌, None, option_map};
 ghost use Rattle.std.specs.declared.option.Option.{Option};
 ghost use Rattle.ctrl_model.specs.declared.replies.Reply.TheVariants.{Refused};
-ghost use Rattle.core_stores.specs.declared.changes.Change.TheVariants.{Entity, Policy, Link, Terminator, Circuit};
+ghost use Rattle.core_stores.specs.declared.changes.Change.TheVariants.{Entity, Policy, Link, Terminator, Circuit, Intercept};
 ghost use Rattle.core_stores.specs.Drafts.{IsShown, IsUncounted};
 
 use circuits::CircuitChange;
 use ctrl_model::{Refusal, Reply};
 use entity_store::EntityChange;
 use fabric_graph::LinkChange;
+use intercepts::InterceptChange;
 use policy_store::{GrantSteps, PolicyChange};
 use std::alloc::Global;
 use terminators::TermChange;
@@ -25,6 +26,8 @@ pub enum Change {
     Terminator(TermChange),
     /// A change of the circuits.
     Circuit(CircuitChange),
+    /// A change of the intercepts.
+    Intercept(InterceptChange),
 }
 
 /// The answer to a command while it is planned: the reply, the change, if there is one, and the steps of the counts. What settles and
@@ -103,6 +106,16 @@ pub fn circuit_change(change: Option<CircuitChange>) -> Option<Change>
 {
     match change {
         Some(change) => Some(Change::Circuit(change)),
+        None => None,
+    }
+}
+
+/// The change of intercepts that a plan has, as one of the core.
+pub fn intercept_change(change: Option<InterceptChange>) -> Option<Change>
+    ensures { result ≡ option_map Intercept change }
+{
+    match change {
+        Some(change) => Some(Change::Intercept(change)),
         None => None,
     }
 }

@@ -27,7 +27,8 @@ use Rattle.policy_store.specs.declared.changes.PolicyChange.{PolicyChange}
 use Rattle.policy_commands.specs.RuledPolicies.{Rules}
 use Rattle.core_stores.specs.declared.stores.Stores.{Stores}
 use Rattle.policy_commands.proofs.PolicyApplyLaws.{attributes_of}
-use Rattle.core_stores.specs.Claims.{claims_left, service_gone}
+use Rattle.intercepts.specs.InterceptChanges.{intercepts_after}
+use Rattle.core_stores.specs.Claims.{claim_gone}
 use Rattle.core_stores.specs.CarriedStates.{Carries}
 use Rattle.policy_commands.specs.ForgottenEntities.{ForgetsEntity, forgetting_by}
 use Rattle.core_stores.specs.StoredState.{HoldsPolicies}
@@ -97,7 +98,7 @@ forgotten_attributes kind.Router name p = λ i.
 forgotten_attributes _ name p = refl
 
 carried_removed : (k : Kind) (n : ℕ) (name : List ℕ) (st : Stores) → is_entity_kind k ≡ true → HoldsPolicies st
-    → Carries st (record st { entities = without_entity k n st.entities; policies = forgetting k name st.policies; intercepts = claims_left (service_gone (Some (change.Remove k n name))) st.intercepts })
+    → Carries st (record st { entities = without_entity k n st.entities; policies = forgetting k name st.policies; intercepts = intercepts_after (claim_gone (Some (change.Remove k n name))) st.intercepts })
     (without_named k n name (state_of st))
 carried_removed k n name st is held = record {
   next = next k is;
@@ -106,7 +107,7 @@ carried_removed k n name st is held = record {
 }
   where
     next : (j : Kind) → is_entity_kind j ≡ true
-        → state_of (record st { entities = without_entity j n st.entities; policies = forgetting j name st.policies; intercepts = claims_left (service_gone (Some (change.Remove j n name))) st.intercepts })
+        → state_of (record st { entities = without_entity j n st.entities; policies = forgetting j name st.policies; intercepts = intercepts_after (claim_gone (Some (change.Remove j n name))) st.intercepts })
         ≡ without_named j n name (state_of st)
     next kind.Identity e = refl
     next kind.Service e = refl
@@ -136,7 +137,7 @@ carried_described _ n attributes st plain held = absurd (false≢true plain)
 
 -- the stores stand for the state after a change of the entities
 pub carried_entity : (c : EntityChange) (st : Stores) → CanEnter c (state_of st) → ValidState (settle (entered c (state_of st))) → HoldsPolicies st
-    → Carries st (record st { entities = after_entity_change c st.entities; policies = forgetting_by c st.policies; intercepts = claims_left (service_gone (Some c)) st.intercepts }) (entered c (state_of st))
+    → Carries st (record st { entities = after_entity_change c st.entities; policies = forgetting_by c st.policies; intercepts = intercepts_after (claim_gone (Some c)) st.intercepts }) (entered c (state_of st))
 carried_entity (change.Add k name attributes) st plain valid held = carried_plain k name attributes st plain held
 carried_entity (change.AddRouter name attributes cost through) st can valid held = carried_router name attributes cost through st held valid
 carried_entity (change.Describe k n attributes) st can valid held = carried_described k n attributes st can.0 held

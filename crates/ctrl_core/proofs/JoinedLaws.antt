@@ -7,6 +7,7 @@ use Rattle.std.specs.Option.{option_map}
 use Rattle.std.specs.Prelude.{count_by, false, true}
 use Rattle.std.specs.Set.{distinct_count}
 use Rattle.std.specs.Str.{bytes_eq}
+use Rattle.ctrl_model.specs.declared.intercepts.Intercept.{Intercept}
 use Rattle.ctrl_model.specs.declared.kinds.Kind.{Kind}
 use Rattle.ctrl_model.specs.declared.kinds.Kind.TheVariants as kind
 use Rattle.ctrl_model.specs.declared.kinds.Relation.{Relation}
@@ -33,6 +34,8 @@ use Rattle.terminator_commands.specs.TermChanges.{terms_of}
 use Rattle.circuits.specs.declared.changes.CircuitChange.{CircuitChange}
 use Rattle.circuits.specs.CircuitChanges.{after_circuit_change, circuits_of}
 use Rattle.grant_denorm.specs.PairCounts.{count_of}
+use Rattle.intercepts.specs.declared.changes.InterceptChange.{InterceptChange}
+use Rattle.intercepts.specs.InterceptChanges.{after_intercept_change}
 use Rattle.state_building.specs.JoinedRecords.{skipped, joined}
 use Rattle.state_building.proofs.JoinedStates.{IsFlawless, IsFlawless-from, flawless-valid, joined-valid}
 use Rattle.state_building.proofs.SkippedStates.{renumbered, skipped-valid}
@@ -82,26 +85,29 @@ keeps_skipped k n st mid above last keeps carries same_loads = record {
 
 -- ---- changes that move no count
 
--- other links, terminators and circuits, and another setting
-network_still : (links : Table Link) (terms : Table Terminator) (circuits : Table Circuit) (least : ℕ) (s : State) (steps : GrantSteps) → HasNoSteps steps
-    → LeadAllCounts s (record s { links = links; terminators = terms; circuits = circuits; least_router_cost = least }) steps
-network_still links terms circuits least s steps none Dial = no_steps_lead s steps none Dial
-network_still links terms circuits least s steps none Bind = no_steps_lead s steps none Bind
-network_still links terms circuits least s steps none IdentityRouter = no_steps_lead s steps none IdentityRouter
-network_still links terms circuits least s steps none ServiceRouter = no_steps_lead s steps none ServiceRouter
+-- other links, terminators, circuits and intercepts, and another setting
+network_still : (links : Table Link) (terms : Table Terminator) (circuits : Table Circuit) (least : ℕ) (claims : List (ℕ × Intercept)) (s : State) (steps : GrantSteps) → HasNoSteps steps
+    → LeadAllCounts s (record s { links = links; terminators = terms; circuits = circuits; least_router_cost = least; intercepts = claims }) steps
+network_still links terms circuits least claims s steps none Dial = no_steps_lead s steps none Dial
+network_still links terms circuits least claims s steps none Bind = no_steps_lead s steps none Bind
+network_still links terms circuits least claims s steps none IdentityRouter = no_steps_lead s steps none IdentityRouter
+network_still links terms circuits least claims s steps none ServiceRouter = no_steps_lead s steps none ServiceRouter
 
 pub network_leads : (c : Change) (s : State) (steps : GrantSteps)
-    → ((x : LinkChange) × (c ≡ change.Link x)) ⊎ (((x : TermChange) × (c ≡ change.Terminator x)) ⊎ ((x : CircuitChange) × (c ≡ change.Circuit x)))
+    → ((x : LinkChange) × (c ≡ change.Link x)) ⊎ (((x : TermChange) × (c ≡ change.Terminator x)) ⊎ (((x : CircuitChange) × (c ≡ change.Circuit x)) ⊎ ((x : InterceptChange) × (c ≡ change.Intercept x))))
     → HasNoSteps steps → LeadAllCounts s (after_change c s) steps
 network_leads c s steps (inl of) none =
     let after = after_link_change of.0 (fabric_of s) in
-    subst (λ d. LeadAllCounts s (after_change d s) steps) (sym of.1) (network_still after.links s.terminators s.circuits after.least s steps none)
+    subst (λ d. LeadAllCounts s (after_change d s) steps) (sym of.1) (network_still after.links s.terminators s.circuits after.least s.intercepts s steps none)
 network_leads c s steps (inr (inl of)) none =
     let after = after_term_change of.0 (terms_of s) in
-    subst (λ d. LeadAllCounts s (after_change d s) steps) (sym of.1) (network_still s.links after.terminators s.circuits s.least_router_cost s steps none)
-network_leads c s steps (inr (inr of)) none =
+    subst (λ d. LeadAllCounts s (after_change d s) steps) (sym of.1) (network_still s.links after.terminators s.circuits s.least_router_cost s.intercepts s steps none)
+network_leads c s steps (inr (inr (inl of))) none =
     let after = after_circuit_change of.0 (circuits_of s) in
-    subst (λ d. LeadAllCounts s (after_change d s) steps) (sym of.1) (network_still s.links s.terminators after.circuits s.least_router_cost s steps none)
+    subst (λ d. LeadAllCounts s (after_change d s) steps) (sym of.1) (network_still s.links s.terminators after.circuits s.least_router_cost s.intercepts s steps none)
+network_leads c s steps (inr (inr (inr of))) none =
+    let after = after_intercept_change of.0 s.intercepts in
+    subst (λ d. LeadAllCounts s (after_change d s) steps) (sym of.1) (network_still s.links s.terminators s.circuits s.least_router_cost after s steps none)
 
 -- ---- a record that may join
 

@@ -1,10 +1,11 @@
--- The rows that no family makes: the intercept of a service that goes, and the serial of a state that is counted.
-use Rattle.std.proofs.Common.{◌≡◌, inl, ℕ, ◌+◌, ◌<◌, ◌≤◌, ◌==◌, nat_lt, Bool, true, false, cond, find, List, [], ◌∷◌, ◌++◌, map, Option, None, Some, option_and_then, option_map, refl, sym, ◌∙◌, ap, subst, arith, eq-eqb, eqb-true, ltb-false}
-use Rattle.std.proofs.lemmas.Bool.{and_from, and_parts, cond-true, true≢false}
+-- The rows of the intercepts after a change, and of the serial of a state that is counted.
+use Rattle.std.proofs.Common.{◌≡◌, ℕ, ◌+◌, ◌<◌, ◌≤◌, ◌==◌, nat_lt, Bool, Bor, true, false, cond, find, List, [], ◌∷◌, ◌++◌, map, Option, None, Some, IfSome, option_and_then, option_map, refl, sym, ◌∙◌, ap, subst, arith, eqb-true, ltb-false}
+use Rattle.std.proofs.lemmas.Bool.{and_parts, true≢false}
 use Rattle.std.proofs.lemmas.Grind.{flat_map-append}
 use Rattle.std.proofs.lemmas.List.{append-nil}
 use Rattle.std.proofs.lemmas.Option.{none-some, same_Some}
 use Rattle.std.specs.List.{AllByRecursion}
+use Rattle.std.specs.Option.{option_or}
 use Rattle.ctrl_model.specs.declared.formats.Format.TheVariants.{Two}
 use Rattle.ctrl_model.specs.declared.intercepts.Intercept.{Intercept}
 use Rattle.ctrl_model.specs.declared.kinds.Kind.{Kind}
@@ -16,14 +17,12 @@ use Rattle.ctrl_model.specs.Grants.{count}
 use Rattle.ctrl_model.specs.Hits.{are_intercepts}
 use Rattle.ctrl_model.specs.InterceptForm.{is_intercept}
 use Rattle.ctrl_model.specs.Limits.{last_serial}
-use Rattle.ctrl_model.specs.Membership.{Among}
 use Rattle.ctrl_model.specs.Numbered.{Table, at, is_present, Between}
 use Rattle.ctrl_model.specs.SameStates.{same_state}
 use Rattle.ctrl_model.specs.State.{State}
 use Rattle.ctrl_model.specs.Tables.{Record, table}
 use Rattle.ctrl_model.specs.ValidState.{ValidState, is_valid_intercept}
 use Rattle.ctrl_model.proofs.Members.{find_passes, list_all-among, list_all-from_among}
-use Rattle.ctrl_model.proofs.NumberedLaws.{at-within, at-without, at-without-other, by_is_some}
 use Rattle.model_laws.specs.Plans.{CanLeadBy, led_by}
 use Rattle.model_laws.proofs.CountedLaws.{counted-same, counted-another}
 use Rattle.model_laws.proofs.SameStateLaws.{same_state-Decides}
@@ -32,27 +31,28 @@ use Rattle.row_codec.specs.declared.changes.Op.{Op}
 use Rattle.row_codec.specs.Batches.{batch_between, batch_of, ops_at, ops_of}
 use Rattle.row_codec.specs.CoveredTables.{Covers, LiesIn, change_at}
 use Rattle.row_codec.specs.RowDifference.{Entry, said_of, value_at}
-use Rattle.row_codec.specs.RowKeys.{RowTable, Key, kinds, kind_number, key_bytes, key_cmp, key_in, is_long, table_number, tables_of}
+use Rattle.row_codec.specs.RowKeys.{RowTable, Key, kinds, kind_number, key_bytes, key_cmp, key_in, table_number, tables_of}
 use Rattle.row_codec.specs.RowKeys.RowTable.{Next, Setting, Records, Counts, Intercepts, Serial}
-use Rattle.row_codec.specs.RowValues.{intercept_value, record_value, wide}
+use Rattle.row_codec.specs.RowValues.{record_value, wide}
 use Rattle.row_codec.specs.StateRows.{Rows, count_value, next_value, row_at, row_in, rows_of, serial_value}
 use Rattle.row_laws.proofs.Covers.{Covers-append, Covers-batch}
 use Rattle.row_laws.proofs.Differences.{said_of-same, same_from_difference}
-use Rattle.row_laws.proofs.KeyOrders.{key_exact, key_total, long_upto}
+use Rattle.row_laws.proofs.KeyOrders.{key_exact, key_total}
 use Rattle.row_laws.proofs.RisingStates.{Rises-rows_of}
 use Rattle.row_laws.proofs.RowsAtKeys.{value_at-rows_of}
 use Rattle.row_laws.proofs.SpelledValues.{same_wide}
 use Rattle.row_laws.proofs.StateBatches.{batch_between-same, same_from_batch}
-use Rattle.row_laws.proofs.TouchedKeys.{Covers-intercepts, Covers-serial}
+use Rattle.row_laws.proofs.TouchedKeys.{Covers-serial}
 use Rattle.row_laws.proofs.WrittenRows.{IsNumbered-valid}
 use Rattle.row_writing.specs.RecordChanges.{serial_change_of}
-use Rattle.entity_store.specs.declared.changes.EntityChange.{EntityChange}
-use Rattle.entity_store.specs.declared.changes.EntityChange.TheVariants as entity
+use Rattle.intercepts.specs.declared.changes.InterceptChange.{InterceptChange}
+use Rattle.intercepts.specs.declared.changes.InterceptChange.TheVariants as claim
+use Rattle.intercepts.specs.InterceptChanges.{Claims, intercepts_after}
 use Rattle.core_stores.specs.declared.changes.Change.{Change}
 use Rattle.core_stores.specs.declared.changes.Change.TheVariants as change
 use Rattle.core_stores.specs.declared.stores.Stores.{Stores}
-use Rattle.core_stores.specs.ChangeParts.{entity_part}
-use Rattle.core_stores.specs.Claims.{claim_changes_of, claims_left, service_gone}
+use Rattle.core_stores.specs.ChangeParts.{entity_part, intercept_part}
+use Rattle.core_stores.specs.Claims.{claim_gone, claim_part, service_gone}
 use Rattle.core_stores.specs.Serials.{with_serial}
 use Rattle.core_stores.specs.StoredState.{state_of}
 use Rattle.core_stores.proofs.SerialLaws.{with_some}
@@ -60,52 +60,53 @@ use Rattle.ctrl_core.specs.ChangedStores.{CanSettle, next_state}
 use Rattle.ctrl_core.specs.Changes.{CanChange, CanLead, after_change, led}
 use Rattle.ctrl_core.specs.declared.plans.Planned.{Planned}
 use Rattle.ctrl_core.specs.KeptState.{Cored, Keeps}
-use Rattle.ctrl_core.proofs.CountedChanges.{named_is_there}
 use Rattle.ctrl_core.proofs.StateParts.{parts_after}
 
--- ---- the intercept of a service that goes
+-- ---- the intercepts after a change
 
 -- what a valid state keeps of services are intercepts
 pub claims_are : (s : State) → ValidState s → are_intercepts s.intercepts ≡ true
 claims_are s v = list_all-from_among (λ x. is_intercept x.1) s.intercepts (λ x m.
     (and_parts (is_present s.services.rows x.0) (is_intercept x.1) (list_all-among (is_valid_intercept s) s.intercepts x v.intercepts m)).1)
 
--- where the intercept of a service goes that may have one, the change of its row covers the table
-covered_without : (o : Option ℕ) (s t : State) → ValidState s → t.intercepts ≡ claims_left o s.intercepts → ((n : ℕ) → o ≡ Some n → is_long n ≡ true)
-    → Covers Two 16 17 s t (claim_changes_of o s.intercepts)
-covered_without None s t v left long = Covers-intercepts s t [] tt refl (λ n out. ap (λ (xs : List (ℕ × Intercept)). at xs n) (sym left))
-covered_without (Some n) s t v left long =
-    subst (λ (after : Option (List ℕ)). Covers Two 16 17 s t (record { key = (change_at Two s t (16, n, 0)).key; before = option_map intercept_value (at s.intercepts n); after = after } ∷ [])) gone
-    (Covers-intercepts s t (n ∷ []) (tt, tt) (and_from (is_long n) true (long n refl) refl) same)
+-- the next state has those that the change leaves
+pub claims_end : (c : Change) (st : Stores) (o : Option InterceptChange) → CanSettle st c → o ≡ claim_part c → (next_state st c).intercepts ≡ intercepts_after o st.intercepts
+claims_end c st o can is = ap (λ (s : State). s.intercepts) (parts_after c st can) ∙ ap (λ p. intercepts_after p st.intercepts) (sym is)
+
+own_claim : (c : Change) (i : InterceptChange) → intercept_part c ≡ Some i → Some i ≡ claim_part c
+own_claim (change.Intercept j) i is = sym is
+own_claim (change.Entity e) i is = absurd (none-some i is)
+own_claim (change.Policy p) i is = absurd (none-some i is)
+own_claim (change.Link l) i is = absurd (none-some i is)
+own_claim (change.Terminator e) i is = absurd (none-some i is)
+own_claim (change.Circuit k) i is = absurd (none-some i is)
+
+claim_along : (c : Change) → intercept_part c ≡ None → claim_gone (entity_part c) ≡ claim_part c
+claim_along (change.Intercept i) none = absurd (none-some i (sym none))
+claim_along _ none = refl
+
+-- it is found as its own change, or else as that of a service that goes
+pub found_claim : (c : Change) (own gone : Option (Bor InterceptChange)) → option_map (λ i. i.now) own ≡ intercept_part c → option_map (λ i. i.now) gone ≡ claim_gone (entity_part c)
+    → option_map (λ i. i.now) (option_or own gone) ≡ claim_part c
+found_claim c None gone is along = along ∙ claim_along c (sym is)
+found_claim c (Some i) gone is along = own_claim c i.now (sym is)
+
+-- what a service gets by it is an intercept
+claims_can : (c : Change) (s : State) → CanChange c s → IfSome (claim_part c) Claims
+claims_can (change.Intercept i) s can = can
+claims_can (change.Entity e) s can = by (service_gone (Some e))
   where
-    gone : option_map intercept_value (at t.intercepts n) ≡ None
-    gone =
-        ap (λ (xs : List (ℕ × Intercept)). option_map intercept_value (at xs n)) left
-        ∙ ap (option_map intercept_value) (at-without s.services.next s.intercepts 1 n n v.ordered ∙ cond-true (n == n) None (at s.intercepts n) (eq-eqb n n refl))
+    by : (o : Option ℕ) → IfSome (option_map (λ n. claim.Remove (record { 0 = n })) o) Claims
+    by None = tt
+    by (Some n) = tt
+claims_can _ s can = tt
 
-    same : (m : ℕ) → (Among m (n ∷ []) → ⊥) → at s.intercepts m ≡ at t.intercepts m
-    same m out = sym (ap (λ (xs : List (ℕ × Intercept)). at xs m) left ∙ at-without-other s.intercepts n m (λ e. out (inl (sym e))))
-
--- a service that goes is there, so that its number fits
-gone_fits : (c : Change) (st : Stores) → CanSettle st c → (n : ℕ) → service_gone (entity_part c) ≡ Some n → is_long n ≡ true
-gone_fits (change.Entity (entity.Remove kind.Service n name)) st can m e =
-    let numbers = (can.before.kinds kind.Service).numbers in
-    let last = numbers.last in
-    by_is_some (at st.entities.services.rows n) (named_is_there kind.Service n name st can.can.0 can.can.1) (λ r is.
-    let within = at-within st.entities.services.next st.entities.services.rows 1 n r numbers.ordered is in
-    subst (λ x. is_long x ≡ true) (same_Some n m e) (long_upto n (omega (arith, within, last))))
-gone_fits (change.Entity (entity.Remove k n name)) st can m e = absurd (none-some m e)
-gone_fits (change.Entity _) st can m e = absurd (none-some m e)
-gone_fits (change.Policy _) st can m e = absurd (none-some m e)
-gone_fits (change.Link _) st can m e = absurd (none-some m e)
-gone_fits (change.Terminator _) st can m e = absurd (none-some m e)
-gone_fits (change.Circuit _) st can m e = absurd (none-some m e)
-
-pub claims_covered : (c : Change) (st : Stores) (o : Option EntityChange) → CanSettle st c → o ≡ entity_part c
-    → Covers Two 16 17 (state_of st) (next_state st c) (claim_changes_of (service_gone o) st.intercepts)
-claims_covered c st o can is =
-    subst (λ p. Covers Two 16 17 (state_of st) (next_state st c) (claim_changes_of (service_gone p) st.intercepts)) (sym is)
-    (covered_without (service_gone (entity_part c)) (state_of st) (next_state st c) can.before (ap (λ (s : State). s.intercepts) (parts_after c st can)) (gone_fits c st can))
+pub claims_fit : (c : Change) (s : State) (o : Option (Bor InterceptChange)) → CanChange c s → option_map (λ i. i.now) o ≡ claim_part c → IfSome o (λ i. Claims i.now)
+claims_fit c s o can is = by o (subst (λ p. IfSome p Claims) (sym is) (claims_can c s can))
+  where
+    by : (p : Option (Bor InterceptChange)) → IfSome (option_map (λ i. i.now) p) Claims → IfSome p (λ i. Claims i.now)
+    by None h = h
+    by (Some i) h = h
 
 -- ---- the serial of a state that is counted
 

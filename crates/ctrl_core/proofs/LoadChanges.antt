@@ -167,6 +167,7 @@ lacks_by (change.Link l) st out counts v still = counted_still (change.Link l) s
 lacks_by (change.Terminator e) st out counts v still = counted_still (change.Terminator e) st out counts v still refl
 lacks_by (change.Circuit (circuit.Add k)) st out counts v still = lacks_one k st out counts still
 lacks_by (change.Circuit (circuit.Remove n)) st out counts v still = tt
+lacks_by (change.Intercept i) st out counts v still = counted_still (change.Intercept i) st out counts v still refl
 
 -- the loads that are kept lack what is told
 pub loads_lack : (c : Change) (st out : Stores) (g : Settled) → CountsOpen st → ValidState (state_of out) → ((is_nothing g.terminators && is_nothing g.going) ≡ true → IsUnsettled c st out)

@@ -112,6 +112,7 @@ all_granted (change.Circuit (circuit.Add k)) st g can falls stands granted rise 
 all_granted (change.Circuit (circuit.Remove n)) st g can falls stands granted rise =
     fell (change.Circuit (circuit.Remove n)) st g can falls (λ x m _. by_filter (λ (y : ℕ × Circuit). not (y.0 == n.0)) st.circuits.circuits.rows x m (λ k _. granted x k))
 all_granted (change.Link l) st g can falls stands granted rise = fell (change.Link l) st g can falls (λ x m _. granted x m)
+all_granted (change.Intercept i) st g can falls stands granted rise = fell (change.Intercept i) st g can falls (λ x m _. granted x m)
 all_granted (change.Entity e) st g can falls stands granted rise = fell (change.Entity e) st g can falls (λ x m. stand (change.Entity e) st can rise x (granted x m))
 all_granted (change.Policy p) st g can falls stands granted rise = fell (change.Policy p) st g can falls (λ x m. stand (change.Policy p) st can rise x (granted x m))
 all_granted (change.Terminator e) st g can falls stands granted rise = fell (change.Terminator e) st g can falls (λ x m. stand (change.Terminator e) st can rise x (granted x m))

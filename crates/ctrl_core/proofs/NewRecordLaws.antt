@@ -29,10 +29,11 @@ use Rattle.state_building.proofs.JoinedStates.{IsFlawless-from}
 use Rattle.core_stores.specs.declared.changes.Change.{Change}
 use Rattle.core_stores.specs.declared.changes.Change.TheVariants as change
 use Rattle.core_stores.specs.declared.stores.Stores.{Stores}
-use Rattle.ctrl_core.specs.declared.new_records.NewRecord.{NewRecord}
+use Rattle.core_stores.specs.declared.new_records.NewRecord.{NewRecord}
+use Rattle.core_stores.specs.NewRecords.{new_in}
 use Rattle.ctrl_core.specs.Changes.{CanChange, after_change}
 use Rattle.ctrl_core.specs.JoinedRows.{CanJoin, MayJoin}
-use Rattle.ctrl_core.specs.NewRecords.{IsNew, is_sound_new, new_flaw_of, new_in}
+use Rattle.ctrl_core.specs.NewRecords.{IsNew, is_sound_new, new_flaw_of}
 use Rattle.ctrl_core.specs.TakenRows.{Takes}
 use Rattle.ctrl_core.proofs.JoinedLaws.{above, joins_valid}
 

@@ -191,6 +191,7 @@ ruled_then (change.Entity q) st p e = absurd (none-some p e)
 ruled_then (change.Link q) st p e = absurd (none-some p e)
 ruled_then (change.Terminator q) st p e = absurd (none-some p e)
 ruled_then (change.Circuit q) st p e = absurd (none-some p e)
+ruled_then (change.Intercept q) st p e = absurd (none-some p e)
 
 pub can_rule : (c : Change) (st : Stores) (p : PolicyChange) → CanSettle st c → policy_part c ≡ Some p → CanChangePolicies p st.policies
 can_rule (change.Policy q) st p can e = subst (λ o. CanChangePolicies (unwrap_or o q) st.policies) e can.can
@@ -198,6 +199,7 @@ can_rule (change.Entity q) st p can e = absurd (none-some p e)
 can_rule (change.Link q) st p can e = absurd (none-some p e)
 can_rule (change.Terminator q) st p can e = absurd (none-some p e)
 can_rule (change.Circuit q) st p can e = absurd (none-some p e)
+can_rule (change.Intercept q) st p can e = absurd (none-some p e)
 
 -- a change that takes an `@` name out makes them so
 pub forgotten_then : (c : Change) (st : Stores) (f : Kind × List ℕ) → forgotten_name (entity_part c) ≡ Some f → policies_then c st ≡ forgetting f.0 f.1 st.policies
@@ -207,6 +209,7 @@ forgotten_then (change.Policy q) st f e = absurd (none-some f e)
 forgotten_then (change.Link q) st f e = absurd (none-some f e)
 forgotten_then (change.Terminator q) st f e = absurd (none-some f e)
 forgotten_then (change.Circuit q) st f e = absurd (none-some f e)
+forgotten_then (change.Intercept q) st f e = absurd (none-some f e)
 
 pub can_forget : (c : Change) (st : Stores) (f : Kind × List ℕ) → CanSettle st c → forgotten_name (entity_part c) ≡ Some f → is_entity_kind f.0 ≡ true
 can_forget (change.Entity (entity.Remove k n name)) st f can e = ap (λ (o : Option (Kind × List ℕ)). is_entity_kind (unwrap_or {T = Kind × List ℕ} o (k, name)).0) (sym e) ∙ can.can.0
@@ -215,6 +218,7 @@ can_forget (change.Policy q) st f can e = absurd (none-some f e)
 can_forget (change.Link q) st f can e = absurd (none-some f e)
 can_forget (change.Terminator q) st f can e = absurd (none-some f e)
 can_forget (change.Circuit q) st f can e = absurd (none-some f e)
+can_forget (change.Intercept q) st f can e = absurd (none-some f e)
 
 -- else they stay
 pub kept_then : (c : Change) (st : Stores) → policy_part c ≡ None → forgotten_name (entity_part c) ≡ None → policies_then c st ≡ st.policies
@@ -224,6 +228,7 @@ kept_then (change.Entity _) st e f = refl
 kept_then (change.Link q) st e f = refl
 kept_then (change.Terminator q) st e f = refl
 kept_then (change.Circuit q) st e f = refl
+kept_then (change.Intercept q) st e f = refl
 
 -- states with the same policies
 pub policies_same : (f : Format) (s t : State) → tables_of s ≡ tables_of t → Covers f 7 10 s t []

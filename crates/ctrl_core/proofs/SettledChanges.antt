@@ -20,6 +20,7 @@ use Rattle.fabric_graph.specs.declared.changes.LinkChange.{LinkChange}
 use Rattle.fabric_graph.specs.declared.changes.LinkChange.TheVariants as link
 use Rattle.link_commands.specs.LinkChanges.{linked}
 use Rattle.policy_store.specs.PolicyChanges.{ruled}
+use Rattle.intercepts.specs.InterceptChanges.{claimed_by}
 use Rattle.terminators.specs.declared.changes.TermChange.{TermChange}
 use Rattle.terminators.specs.declared.changes.TermChange.TheVariants as term
 use Rattle.terminator_commands.specs.TermChanges.{offered}
@@ -135,3 +136,6 @@ module _ (st : Stores) (v : ValidState (state_of st)) where
   settles (change.Link c) can stands g n = link_settles c g n
   settles (change.Terminator c) can stands g n = term_settles c g n
   settles (change.Circuit c) can stands g n = circuit_settles c stands g n
+  settles (change.Intercept c) can stands g n =
+      let t = claimed_by c s in
+      settled_from t [] [] [] g (claimed_falls t.intercepts s [] [] [] (policies_changed s v s.service_policies s.edge_router_policies s.service_edge_router_policies)) n

@@ -32,7 +32,8 @@ use Rattle.core_stores.specs.declared.changes.Change.TheVariants as change
 use Rattle.core_stores.specs.declared.settled.Settled.{Settled}
 use Rattle.core_stores.specs.declared.stores.Stores.{Stores}
 use Rattle.policy_commands.specs.ForgottenEntities.{forgetting_by}
-use Rattle.core_stores.specs.Claims.{claims_left, service_gone}
+use Rattle.intercepts.specs.InterceptChanges.{intercepts_after}
+use Rattle.core_stores.specs.Claims.{claim_part}
 use Rattle.core_stores.specs.ChangeParts.{entity_part, link_part, term_part, circuit_part}
 use Rattle.ctrl_core.specs.ChangedStores.{CanSettle}
 use Rattle.ctrl_core.specs.Changes.{after_change}
@@ -77,7 +78,7 @@ abbrev pub circuits_then : Change → Stores → CircuitTables
 circuits_then c st = changed_by after_circuit_change (circuit_part c) st.circuits
 
 abbrev pub claims_then : Change → Stores → List (ℕ × Intercept)
-claims_then c st = claims_left (service_gone (entity_part c)) st.intercepts
+claims_then c st = intercepts_after (claim_part c) st.intercepts
 
 abbrev pub state_then : Change → Stores → State
 state_then c st = assembled (entities_then c st) (policies_then c st) (links_then c st) (terms_then c st) (circuits_then c st) (claims_then c st) st.serial
@@ -95,6 +96,7 @@ parts_after (change.Policy p) st can = refl
 parts_after (change.Link l) st can = refl
 parts_after (change.Terminator e) st can = ap (λ (t : Table Terminator). record (state_of st) { terminators = t }) (same_terms e st.terminators)
 parts_after (change.Circuit k) st can = refl
+parts_after (change.Intercept i) st can = refl
 
 -- ---- the tables after a change are numbered
 

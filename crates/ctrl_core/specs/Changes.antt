@@ -13,6 +13,7 @@ use Rattle.policy_store.specs.PolicyChanges.{CanRule, ruled}
 use Rattle.link_commands.specs.LinkChanges.{CanLink, linked}
 use Rattle.terminator_commands.specs.TermChanges.{CanOffer, offered}
 use Rattle.circuit_rules.specs.CircuitPlans.{CanRoute, routed}
+use Rattle.intercepts.specs.InterceptChanges.{CanClaim, claimed_by}
 use Rattle.core_stores.specs.declared.changes.Change.{Change}
 use Rattle.core_stores.specs.declared.changes.Change.TheVariants as change
 use Rattle.grant_steps.specs.LeadingSteps.{LeadAllCounts}
@@ -30,6 +31,7 @@ after_change (change.Policy c) s = ruled c s
 after_change (change.Link c) s = linked c s
 after_change (change.Terminator c) s = offered c s
 after_change (change.Circuit c) s = routed c s
+after_change (change.Intercept c) s = claimed_by c s
 
 -- What a change needs of the state.
 abbrev pub CanChange : Change → State → Type 0
@@ -38,6 +40,7 @@ CanChange (change.Policy c) s = CanRule c s
 CanChange (change.Link c) s = CanLink c s
 CanChange (change.Terminator c) s = CanOffer c s
 CanChange (change.Circuit c) s = CanRoute c s
+CanChange (change.Intercept c) s = CanClaim c s
 
 -- Where the change of a plan leads, not yet counted: the state stays where the plan has no change, and is settled after a change.
 abbrev pub led : Planned → State → State

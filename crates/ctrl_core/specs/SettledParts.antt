@@ -28,13 +28,14 @@ bare_state_of st = record start {
   least_router_cost = st.fabric.least;
 }
 
--- What settles after a change. A circuit that is added stands.
+-- What settles after a change. A circuit that is added stands, and intercepts matter to nothing that settles.
 abbrev pub NamesBy : Change → State → Fallen → Type 0
 NamesBy (change.Entity c) s g = NamesByEntity c s g
 NamesBy (change.Policy c) s g = Names [] [] [] g
 NamesBy (change.Link c) s g = NamesByLink c s g
 NamesBy (change.Terminator c) s g = NamesByTerm c s g
 NamesBy (change.Circuit c) s g = Names [] [] [] g
+NamesBy (change.Intercept c) s g = Names [] [] [] g
 
 -- The counts of a relation, as they will be.
 abbrev pub counts_after : Relation → GrantsAfter → ℕ → ℕ → ℕ

@@ -19,6 +19,7 @@ use core_stores::{
     Change, Settled, Stores, apply_steps, count_loads, forget_claim, loads_after, take_out,
 };
 use entity_commands::{EntityChange, apply_entity_change};
+use intercept_commands::apply_intercept_change;
 use link_commands::apply_link_change;
 use policy_commands::{PolicyChange, apply_policy_change, forget_by};
 use policy_store::GrantSteps;
@@ -65,6 +66,7 @@ pub fn apply_change(alloc: Global, stores: &mut Stores, change: Change) -> Resul
         Change::Link(change) => apply_link_change(&mut stores.fabric, change),
         Change::Terminator(change) => apply_term_change(&mut stores.terminators, change),
         Change::Circuit(change) => apply_circuit_change(&mut stores.circuits, change),
+        Change::Intercept(change) => apply_intercept_change(&mut stores.intercepts, change),
     }
 }
 

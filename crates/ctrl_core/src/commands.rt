@@ -1,9 +1,13 @@
 ghost use Rattle.std.specs.Prelude.{◌≡◌, true, false, IfOk, MatchOption};
 ghost use Rattle.ctrl_model.specs.CommandForm.{is_spelled};
 ghost use Rattle.ctrl_model.specs.Controller.{carry};
-ghost use Rattle.ctrl_model.specs.InterceptCommands.{is_intercept_command};
 ghost use Rattle.ctrl_model.specs.State.{State};
 ghost use Rattle.ctrl_model.specs.declared.replies.Reply.{Reply};
+ghost use Rattle.entity_commands.specs.EntityPlans.{is_entity_command};
+ghost use Rattle.policy_commands.specs.PolicyPlans.{is_policy_command};
+ghost use Rattle.link_commands.specs.LinkPlans.{is_link_command};
+ghost use Rattle.terminator_commands.specs.TermPlans.{is_terminator_command};
+ghost use Rattle.circuit_rules.specs.CircuitPlans.{is_circuit_command};
 ghost use Rattle.model_laws.specs.Plans as family;
 ghost use Rattle.model_laws.specs.Plans.{CanLeadBy};
 ghost use Rattle.core_stores.specs.StoredState.{state_of};
@@ -16,10 +20,12 @@ ghost use Rattle.ctrl_core.specs.PlannedCommands.{CanPlan, Plans};
 use crate::counting::change_steps;
 use circuit_rules::{Parts, plan_circuit_command};
 use core_stores::{
-    Change, Draft, Stores, circuit_change, entity_change, link_change, policy_change, term_change,
+    Change, Draft, Stores, circuit_change, entity_change, intercept_change, link_change,
+    policy_change, term_change,
 };
 use ctrl_model::{Command, Reply};
 use entity_commands::plan_entity_command;
+use intercept_commands::plan_intercept_command;
 use link_commands::plan_link_command;
 use policy_commands::plan_policy_command;
 use policy_store::count_all_policies;
@@ -79,12 +85,38 @@ fn shown_in(alloc: Global, stores: &Stores, command: &Command) -> Result<Option<
     shown_by(alloc, &shown, command)
 }
 
+// Plans the answer to a command on intercepts, to one that shows grants or counts, and to one that belongs to no family.
+fn plan_other_command(
+    alloc: Global,
+    stores: &Stores,
+    command: &Command,
+) -> Result<Draft, AllocError>
+    requires kept { Keeps stores.now }
+    requires spelled { is_spelled command.now ≡ true }
+    requires entity { is_entity_command command.now ≡ false }
+    requires policy { is_policy_command command.now ≡ false }
+    requires link { is_link_command command.now ≡ false }
+    requires terminator { is_terminator_command command.now ≡ false }
+    requires circuit { is_circuit_command command.now ≡ false }
+    ensures { IfOk result (λ p. Plans p (carry command.now (state_of stores.now)) (state_of stores.now)) }
+{
+    let entities = &stores.entities;
+    let claims = &stores.intercepts;
+    let dial = &stores.grants.dial;
+    if let Some(plan) = plan_intercept_command(alloc, entities, claims, dial, command)? {
+        return drafted(alloc, stores, plan.reply, intercept_change(plan.change));
+    }
+    if let Some(reply) = shown_in(alloc, stores, command)? {
+        return Ok(Draft::shown(alloc, reply));
+    }
+    Ok(Draft::shown(alloc, reply_alone(command)))
+}
+
 /// Plans the answer to a command over the state of some stores: it is planned by the family that it belongs to, and what belongs to
-/// none, Hello or Compact, changes nothing. No command on intercepts is planned.
+/// none, Hello or Compact, changes nothing.
 pub fn plan_command(alloc: Global, stores: &Stores, command: &Command) -> Result<Draft, AllocError>
     requires kept { Keeps stores.now }
     requires spelled { is_spelled command.now ≡ true }
-    requires other { is_intercept_command command.now ≡ false }
     ensures { IfOk result (λ p. Plans p (carry command.now (state_of stores.now)) (state_of stores.now)) }
 {
     let entities = &stores.entities;
@@ -115,8 +147,5 @@ pub fn plan_command(alloc: Global, stores: &Stores, command: &Command) -> Result
     if let Some(plan) = plan_terminator_command(entities, &stores.terminators, bind, command)? {
         return drafted(alloc, stores, plan.reply, term_change(plan.change));
     }
-    if let Some(reply) = shown_in(alloc, stores, command)? {
-        return Ok(Draft::shown(alloc, reply));
-    }
-    Ok(Draft::shown(alloc, reply_alone(command)))
+    plan_other_command(alloc, stores, command)
 }

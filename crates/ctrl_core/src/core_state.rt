@@ -2,7 +2,6 @@ ghost use Rattle.std.specs.Prelude.{◌≡◌, ◌⊎◌, ◌+◌, ◌<◌, ℕ,
 ghost use Rattle.ctrl_model.specs.State.{start};
 ghost use Rattle.ctrl_model.specs.CommandForm.{is_spelled};
 ghost use Rattle.ctrl_model.specs.Controller.{carry, counted};
-ghost use Rattle.ctrl_model.specs.InterceptCommands.{is_intercept_command};
 ghost use Rattle.ctrl_model.specs.Grants.{count};
 ghost use Rattle.ctrl_model.specs.Limits.{last_serial};
 ghost use Rattle.ctrl_model.specs.Networks.{circuits_full, open_circuits};
@@ -161,11 +160,10 @@ impl Core {
     /// Plans the answer to a command that some body spells, as the controller gives it to who may send it. A plan of a refusal, or of a
     /// reply that shows something, has no change and moves no count. It leads to the next state counted: where that is another one, its
     /// serial is one higher. Its batch is exactly the difference between the rows of the two, so it is empty where they are equal. The
-    /// state stays, and it is valid. No command on intercepts is planned.
+    /// state stays, and it is valid.
     pub fn plan(&self, command: &Command) -> Result<Planned, AllocError>
         requires live { self.now.live ≡ true }
         requires spelled { is_spelled command.now ≡ true }
-        requires other { is_intercept_command command.now ≡ false }
         ensures reply { IfOk result (λ p. p.reply ≡ (carry command.now self.now.state).0) }
         ensures leads { IfOk result (λ p. LeadsFrom p self.now.state (counted self.now.state (carry command.now self.now.state).1)) }
         ensures still { IfOk result (λ p. tells_change p.reply ≡ false → IsStill p.change p.steps) }
@@ -201,11 +199,10 @@ impl Core {
     }
 
     /// Answers a command that some body spells, and moves the state to the next one, which is not counted. No batch is made. Where memory is
-    /// wanting the core stays, or it is given up. No command on intercepts is answered.
+    /// wanting the core stays, or it is given up.
     pub fn answer(&mut self, command: &Command) -> Result<Reply, AllocError>
         requires live { self.old.live ≡ true }
         requires spelled { is_spelled command.now ≡ true }
-        requires other { is_intercept_command command.now ≡ false }
         ensures answered { IfOk result (λ r. (r, self.new.state) ≡ carry command.now self.old.state) }
         ensures live { OnOk result (self.new.live ≡ true) }
         ensures valid { ValidState self.old.state }

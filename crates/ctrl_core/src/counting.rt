@@ -72,7 +72,7 @@ fn entity_change_steps(
     }
 }
 
-/// The steps that the counts take where a change is made. Links, terminators and circuits move none.
+/// The steps that the counts take where a change is made. Links, terminators, circuits and intercepts move none.
 pub fn change_steps(
     alloc: Global,
     stores: &Stores,
@@ -87,6 +87,8 @@ pub fn change_steps(
         Change::Policy(change) => {
             policy_change_steps(alloc, &stores.entities, &stores.policies, change)
         }
-        Change::Link(_) | Change::Terminator(_) | Change::Circuit(_) => Ok(GrantSteps::none(alloc)),
+        Change::Link(_) | Change::Terminator(_) | Change::Circuit(_) | Change::Intercept(_) => {
+            Ok(GrantSteps::none(alloc))
+        }
     }
 }

@@ -12,10 +12,11 @@ use crate::kept_format::KEPT_FORMAT;
 use batch_codec::batch_of;
 use circuit_settling::circuit_changes;
 use core_stores::{
-    Change, Settled, Stores, claim_changes, forgotten, least_change, next_changes, with_serial,
+    Change, Settled, Stores, claim_gone, forgotten, least_change, next_changes, with_serial,
 };
 use entity_commands::entity_changes;
 use grant_rows::{CountMoves, GrantMoves, all_count_changes};
+use intercept_commands::intercept_changes;
 use link_commands::link_changes;
 use policy_commands::{forgotten_changes, policy_changes};
 use policy_store::GrantSteps;
@@ -199,7 +200,9 @@ fn intercept_rows(alloc: Global, stores: &Stores, change: &Change) -> Result<Cha
     requires { CanSettle stores.now change.now }
     ensures { IfOk result (Covers kept_format 16 17 (state_of stores.now) (next_state stores.now change.now)) }
 {
-    claim_changes(alloc, &stores.intercepts, change.of_entities())
+    let gone = claim_gone(change.of_entities());
+    let change = change.of_intercepts().or(gone.as_ref());
+    intercept_changes(alloc, &stores.intercepts, change)
 }
 
 // The changes of all tables but that of the serial.

@@ -44,7 +44,7 @@ fn fallen_by(alloc: Global, stores: &Stores, change: &Change) -> Result<Fallen, 
     };
     match change {
         Change::Entity(change) => settled_by_entity(alloc, &standing, change),
-        Change::Policy(_) | Change::Circuit(_) => Ok(nothing(alloc)),
+        Change::Policy(_) | Change::Circuit(_) | Change::Intercept(_) => Ok(nothing(alloc)),
         Change::Link(change) => settled_by_link(alloc, &standing, change),
         Change::Terminator(change) => settled_by_term(alloc, &standing, change),
     }

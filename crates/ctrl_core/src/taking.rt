@@ -12,13 +12,14 @@ ghost use Rattle.state_building.specs.BuiltStates.{flaw_in, next_in, with_row};
 ghost use Rattle.core_stores.specs.StoredState.{state_of};
 ghost use Rattle.ctrl_core.specs.Changes.{after_change};
 ghost use Rattle.ctrl_core.specs.KeptState.{Keeps};
-ghost use Rattle.ctrl_core.specs.NewRecords.{IsNew, is_sound_new, new_flaw_of, new_in};
+ghost use Rattle.core_stores.specs.NewRecords.{new_in};
+ghost use Rattle.ctrl_core.specs.NewRecords.{IsNew, is_sound_new, new_flaw_of};
 ghost use Rattle.ctrl_core.specs.LoadedRows.{IsSomeRow};
 ghost use Rattle.ctrl_core.specs.TakenRows.{Takes, count_flaw_of};
 
-use crate::new_records::{new_flaw, new_in};
+use crate::new_records::new_flaw;
 use crate::row_joining::{join_router, make_at};
-use core_stores::{Change, Stores};
+use core_stores::{Change, Stores, new_in};
 use ctrl_model::{Copies, Intercept, Kind, MOST_COST, Name, Names, Relation, ServiceNo};
 use intercepts::Intercepts;
 use record_flaws::{Coming, claim_flaw, is_sound_row, router_flaw, serial_flaw};

@@ -15,7 +15,6 @@ ghost use Rattle.row_store.specs.OpenedStates.{OpensToState};
 ghost use Rattle.ctrl_keep.specs.KeptMachine.{step, is_compact};
 ghost use Rattle.ctrl_model.specs.declared.replies.Reply.TheVariants.{Done};
 ghost use Rattle.row_store.specs.RewrittenStores.{IsRewritten};
-ghost use Rattle.ctrl_model.specs.InterceptCommands.{is_intercept_command};
 ghost use Rattle.ctrl_core.specs.KeptFormat.{kept_format};
 ghost use Rattle.ctrl_keep.specs.KeptBatches.{Follows};
 ghost use Rattle.ctrl_keep.specs.KeptController.{HoldsRows, machine_of};
@@ -136,7 +135,7 @@ impl Kept {
         })
     }
 
-    /// Answers a command that some body spells and that is not of intercepts, whoever sends it, and keeps what it changes in the folder before it answers.
+    /// Answers a command that some body spells, whoever sends it, and keeps what it changes in the folder before it answers.
     ///
     /// The reply and what comes after are the machine's: a change without room in the journal is refused as `JournalFull`, and one that
     /// changes no row is answered at once. Any other change is counted in the serial, and at the last serial it is refused so too. A command that leaves the machine as it was leaves the desk, whole; any other adds the one batch
@@ -153,7 +152,6 @@ impl Kept {
         command: &Command,
     ) -> Result<Reply, KeepFault>
         requires spelled { is_spelled command.now ≡ true }
-        requires other { is_intercept_command command.now ≡ false }
         requires stands { self.old.spent ≡ false → IsTrue D.tells → ReadsAs self.old.stored (D.seen desk.old).reads (D.stopped desk.old).images }
 
         ensures step { IfOk result (λ reply. (reply, machine_of self.new) ≡ step self.old.stored.bounds who.now command.now (machine_of self.old)) }

@@ -4,7 +4,11 @@ use Rattle.std.proofs.Common.{◌≡◌, ◌⊎◌, inl, inr, ℕ, List, [], ◌
 use Rattle.std.specs.declared.option.Option.{Option}
 use Rattle.ziti_outside.specs.Images.{Image}
 use Rattle.ziti_outside.specs.Views.{Outside, Seen, Stopped}
+use Rattle.ctrl_model.specs.declared.formats.Format.{Format}
 use Rattle.ctrl_model.specs.State.{State}
+use Rattle.slot_files.specs.FolderImage.{Stands}
+use Rattle.ship_core.specs.Pieces.{written}
+use Rattle.ship_core.specs.Shipping.{shipped}
 use Rattle.policy_advisor.specs.Reports.{report_of}
 use Rattle.row_store.specs.declared.bounds.StoreBounds.{StoreBounds}
 use Rattle.ctrl_keep.specs.KeptMachine.{Machine}
@@ -13,9 +17,10 @@ use Rattle.session_mux.specs.declared.sessions.Form.{Form}
 use Rattle.run_notes.specs.declared.status.Status.{Status}
 use Rattle.run_notes.specs.declared.status.Status.TheVariants.{Done, Usage, BadInput, Truncated, ReadFault, WriteFault, DiskFault, Damaged, NoMemory, InputTooLong, FolderFull}
 use Rattle.ctrl_serve.specs.declared.bounds.Bounds.{Bounds}
-use Rattle.ctrl_serve.specs.declared.command_line.Form.TheVariants.{Replay, Audit, Compact, Advise}
+use Rattle.ctrl_serve.specs.declared.command_line.Form.TheVariants.{Replay, Audit, Compact, Advise, Ship}
 use Rattle.ctrl_serve.specs.Loads.{counts_line, IsSaid}
 use Rattle.ctrl_serve.specs.FolderWords.{Compacts, EndsCompaction, Looks}
+use Rattle.ctrl_serve.specs.ShipWords.{SaysShipped, Ships}
 use Rattle.ctrl_serve.specs.Headline.{folder_bounds, taking_of, Taking, StaysClosed, IsUnopened, IsComplete, Refuses, Replays, Runs}
 use Rattle.ctrl_serve.specs.OpenedFolders.{OpensTo}
 use Rattle.ctrl_serve.specs.CompleteRuns.{IsCalm, IsFull, CompletesFrom, ComesOut, ComesOutFrom}
@@ -111,6 +116,42 @@ pub advise_is_complete : {S D : Type 0} (o : Outside S D) (bounds : Bounds) (ide
     → IsSaid (report_of s identity service) (o.seen desk).said (o.seen desk_now).said status
 advise_is_complete o bounds identity service source source_now desk desk_now status s runs told opens says disk =
     looked {seen = o.seen} {stopped = o.stopped} (λ t. report_of t identity service) o.tells desk desk_now status s (runs.advise identity service refl refl) told opens
+    (λ w. says (runs.write_fault w)) (λ d. disk (runs.disk_fault d))
+
+-- ---- ship
+
+-- Where no call failed all is shipped of a folder, unless memory was wanting.
+shipped_all : (tells : Bool) (from : ℕ) (before now : Seen) (status : Status) (s : State) (format : Format) (batches : List (List ℕ)) → Ships from tells before now status
+    → SaysShipped status before.said now.said (shipped from format batches) → IsTrue tells → (status ≡ WriteFault → ⊥) → (status ≡ DiskFault → ⊥)
+    → IsSaid (written (shipped from format batches)) before.said now.said status
+shipped_all tells from before now Done s format batches on says told write disk = inr (refl, says)
+shipped_all tells from before now Usage s format batches on says told write disk = absurd says
+shipped_all tells from before now BadInput s format batches on says told write disk = absurd says
+shipped_all tells from before now Truncated s format batches on says told write disk = absurd says
+shipped_all tells from before now ReadFault s format batches on says told write disk = absurd says
+shipped_all tells from before now WriteFault s format batches on says told write disk = absurd (write refl)
+shipped_all tells from before now DiskFault s format batches on says told write disk = absurd (disk refl)
+shipped_all tells from before now Damaged s format batches on says told write disk = absurd (on.notes.2 told)
+shipped_all tells from before now NoMemory s format batches on says told write disk = inl refl
+shipped_all tells from before now InputTooLong s format batches on says told write disk = absurd says
+shipped_all tells from before now FolderFull s format batches on says told write disk = absurd says
+
+shipped_whole : {D : Type 0} {seen : D → Seen} {stopped : D → Stopped}
+    (tells : Bool) (from : ℕ) (desk desk_now : D) (status : Status) (s : State) (format : Format) (batches : List (List ℕ)) → IsUnopened None tells seen stopped desk desk_now status
+    ⊎ Ships from tells (seen desk) (seen desk_now) status
+    → IsTrue tells → OpensToState (seen desk).reads s → Stands format (seen desk).reads batches → (status ≡ WriteFault → ⊥) → (status ≡ DiskFault → ⊥)
+    → IsSaid (written (shipped from format batches)) (seen desk).said (seen desk_now).said status
+shipped_whole {seen = seen} tells from desk desk_now status s format batches (inl closed) told opens stands write disk =
+    inl (starved_looking tells (seen desk) (seen desk_now) status s closed.why told opens disk)
+shipped_whole {seen = seen} tells from desk desk_now status s format batches (inr on) told opens stands write disk =
+    shipped_all tells from (seen desk) (seen desk_now) status s format batches on (on.ships told format batches stands) told write disk
+
+pub ship_is_complete : {S D : Type 0} (o : Outside S D) (bounds : Bounds) (words : List (List ℕ)) (from : ℕ) (source source_now : S) (desk desk_now : D) (status : Status) (s : State) (format : Format)
+    (batches : List (List ℕ)) → Runs o bounds words (Some (Ship from)) source source_now desk desk_now status
+    → IsTrue o.tells → OpensToState (o.seen desk).reads s → Stands format (o.seen desk).reads batches → IsCalm (o.seen desk).say_faults (o.seen desk_now).say_faults
+    → IsCalm (o.seen desk).disk_faults (o.seen desk_now).disk_faults → IsSaid (written (shipped from format batches)) (o.seen desk).said (o.seen desk_now).said status
+ship_is_complete o bounds words from source source_now desk desk_now status s format batches runs told opens stands says disk =
+    shipped_whole {seen = o.seen} {stopped = o.stopped} o.tells from desk desk_now status s format batches (runs.ship from refl) told opens stands
     (λ w. says (runs.write_fault w)) (λ d. disk (runs.disk_fault d))
 
 -- ---- compact

@@ -1,5 +1,5 @@
 -- The answers to the commands on intercepts fit a reply.
-use Rattle.std.proofs.Common.{◌≡◌, ℕ, ◌≤◌, ◌==◌, ◌&&◌, ◌||◌, Bool, true, false, nat_le, cond, List, [], length, map, filter, bytes_eq, Option, None, Some, refl, sym, ap, subst, arith}
+use Rattle.std.proofs.Common.{◌≡◌, ℕ, ◌≤◌, ◌==◌, ◌&&◌, ◌||◌, Bool, true, false, nat_le, cond, List, [], length, map, filter, bytes_eq, Option, None, Some, refl, sym, subst, arith}
 use Rattle.std.proofs.lemmas.Bool.{le-leb, and_parts}
 use Rattle.std.proofs.lemmas.List.{length-map}
 use Rattle.std.proofs.lemmas.Slice.Eq.{bytes_eq-Decides}

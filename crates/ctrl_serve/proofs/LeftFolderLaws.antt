@@ -16,6 +16,7 @@ use Rattle.ctrl_model.specs.declared.refusals.Refusal.TheVariants.{JournalFull, 
 use Rattle.ctrl_model.specs.declared.replies.Reply.{Reply}
 use Rattle.ctrl_model.specs.declared.replies.Reply.TheVariants as reply
 use Rattle.ctrl_model.specs.State.{State, start}
+use Rattle.ctrl_model.specs.ValidState.{ValidState}
 use Rattle.model_laws.specs.JudgedCircuits.{AreGranted}
 use Rattle.ctrl_keep.specs.KeptBatches.{mark_at}
 use Rattle.ctrl_keep.specs.KeptMachine.{Machine, Place, compacted_place}
@@ -29,10 +30,11 @@ use Rattle.run_notes.specs.NotedLines.{NotesLines}
 use Rattle.run_notes.specs.Notes.{damaged_note}
 use Rattle.ctrl_serve.specs.declared.bounds.Bounds.{Bounds}
 use Rattle.ctrl_serve.specs.declared.command_line.Form as command
-use Rattle.ctrl_serve.specs.declared.command_line.Form.TheVariants.{Dry, Replay, Audit, Compact, Load, Advise}
+use Rattle.ctrl_serve.specs.declared.command_line.Form.TheVariants.{Dry, Replay, Audit, Compact, Load, Advise, Ship}
 use Rattle.ctrl_serve.specs.CommandLine.{form_of}
 use Rattle.ctrl_serve.proofs.AdviseWords.{advise_words}
 use Rattle.ctrl_serve.specs.FolderWords.{compaction, Compacts}
+use Rattle.ctrl_serve.specs.ShipWords.{SaysOf, Ships}
 use Rattle.ctrl_serve.specs.FrameAnswer.{last_machine}
 use Rattle.ctrl_serve.specs.Headline.{folder_bounds, taking_of, IsLeftAlone, IsUnopened, Refuses, Replays, Runs, StaysClosed}
 use Rattle.ctrl_serve.specs.LeftFolders.{HoldsAlone, HoldsGranted, KeepsAllFrames}
@@ -228,29 +230,54 @@ done_compacts o bounds words source source_now desk desk_now s runs told opens =
 
 -- ---- damage
 
--- Whatever the words, nothing was taken, and the folder was not opened.
-pub record StaysShut {S D : Type 0} (o : Outside S D) (source source_now : S) (desk desk_now : D) : Type 0 where
-  pub takes_nothing : source_now ≡ source
+-- Whatever the words, nothing was taken.
+pub nothing_taken : {S D : Type 0} (o : Outside S D) (bounds : Bounds) (words : List (List ℕ)) (form : Option command.Form) (source source_now : S) (desk desk_now : D)
+    → form_of words ≡ form → Runs o bounds words form source source_now desk desk_now Damaged → source_now ≡ source
+nothing_taken o bounds words None source source_now desk desk_now asked runs = runs.usage_takes_nothing refl
+nothing_taken o bounds words (Some Dry) source source_now desk desk_now asked runs = absurd (runs.dry refl).says
+nothing_taken o bounds words (Some (Replay form)) source source_now desk desk_now asked runs =
+    elim (runs.replay form refl) as (λ _. source_now ≡ source) [ inl closed ↦ closed.takes_nothing | inr on ↦ absurd on.serves.says ]
+nothing_taken o bounds words (Some Audit) source source_now desk desk_now asked runs = runs.audit_takes_nothing refl
+nothing_taken o bounds words (Some Compact) source source_now desk desk_now asked runs = runs.compact_takes_nothing refl
+nothing_taken o bounds words (Some (Load number)) source source_now desk desk_now asked runs = runs.load_takes_nothing number refl
+nothing_taken o bounds words (Some Advise) source source_now desk desk_now asked runs = runs.advise_takes_nothing refl
+nothing_taken o bounds words (Some (Ship from)) source source_now desk desk_now asked runs = runs.ship_takes_nothing from refl
+
+-- And the folder was not opened, unless it is not told and was shipped.
+pub record StaysShut {D : Type 0} (tells : Bool) (seen : D → Seen) (stopped : D → Stopped) (desk desk_now : D) : Type 0 where
   pub within : Option StoreBounds
-  pub unopened : IsUnopened within o.tells o.seen o.stopped desk desk_now Damaged
+  pub unopened : IsUnopened within tells seen stopped desk desk_now Damaged
 
 pub stays_shut : {S D : Type 0} (o : Outside S D) (bounds : Bounds) (words : List (List ℕ)) (form : Option command.Form) (source source_now : S) (desk desk_now : D)
-    → form_of words ≡ form → Runs o bounds words form source source_now desk desk_now Damaged → StaysShut o source source_now desk desk_now
-stays_shut o bounds words None source source_now desk desk_now asked runs = let e : Damaged ≡ Usage = runs.usage.1 refl in absurd cc
-stays_shut o bounds words (Some Dry) source source_now desk desk_now asked runs = absurd (runs.dry refl).says
-stays_shut o bounds words (Some (Replay form)) source source_now desk desk_now asked runs =
-    elim (runs.replay form refl) as (λ _. StaysShut o source source_now desk desk_now) [ inl closed ↦ record { takes_nothing = closed.takes_nothing; within = Some (folder_bounds bounds); unopened = closed.unopened } | inr on ↦ absurd on.serves.says ]
-stays_shut o bounds words (Some Audit) source source_now desk desk_now asked runs =
-    elim (runs.audit refl) as (λ _. StaysShut o source source_now desk desk_now) [ inl closed ↦ record { takes_nothing = runs.audit_takes_nothing refl; within = None; unopened = closed } | inr on ↦ absurd on.says.says ]
-stays_shut o bounds words (Some Compact) source source_now desk desk_now asked runs =
-    elim (runs.compact refl) as (λ _. StaysShut o source source_now desk desk_now) [ inl closed ↦ record { takes_nothing = runs.compact_takes_nothing refl; within = Some (folder_bounds bounds); unopened = closed } | inr on ↦ absurd on.ends ]
-stays_shut o bounds words (Some (Load number)) source source_now desk desk_now asked runs = absurd (runs.load number refl).says
-stays_shut o bounds words (Some Advise) source source_now desk desk_now asked runs =
+    → form_of words ≡ form → ((from : ℕ) → form ≡ Some (Ship from) → IsTrue o.tells) → Runs o bounds words form source source_now desk desk_now Damaged
+    → StaysShut o.tells o.seen o.stopped desk desk_now
+stays_shut o bounds words None source source_now desk desk_now asked told runs = let e : Damaged ≡ Usage = runs.usage.1 refl in absurd cc
+stays_shut o bounds words (Some Dry) source source_now desk desk_now asked told runs = absurd (runs.dry refl).says
+stays_shut o bounds words (Some (Replay form)) source source_now desk desk_now asked told runs =
+    elim (runs.replay form refl) as (λ _. StaysShut o.tells o.seen o.stopped desk desk_now) [ inl closed ↦ record { within = Some (folder_bounds bounds); unopened = closed.unopened } | inr on ↦ absurd on.serves.says ]
+stays_shut o bounds words (Some Audit) source source_now desk desk_now asked told runs =
+    elim (runs.audit refl) as (λ _. StaysShut o.tells o.seen o.stopped desk desk_now) [ inl closed ↦ record { within = None; unopened = closed } | inr on ↦ absurd on.says.says ]
+stays_shut o bounds words (Some Compact) source source_now desk desk_now asked told runs =
+    elim (runs.compact refl) as (λ _. StaysShut o.tells o.seen o.stopped desk desk_now) [ inl closed ↦ record { within = Some (folder_bounds bounds); unopened = closed } | inr on ↦ absurd on.ends ]
+stays_shut o bounds words (Some (Load number)) source source_now desk desk_now asked told runs = absurd (runs.load number refl).says
+stays_shut o bounds words (Some Advise) source source_now desk desk_now asked told runs =
     let names = advise_words words asked in
-    elim (runs.advise names.identity names.service names.are refl) as (λ _. StaysShut o source source_now desk desk_now) [
-      | inl closed ↦ record { takes_nothing = runs.advise_takes_nothing refl; within = None; unopened = closed }
+    elim (runs.advise names.identity names.service names.are refl) as (λ _. StaysShut o.tells o.seen o.stopped desk desk_now) [
+      | inl closed ↦ record { within = None; unopened = closed }
       | inr on ↦ absurd on.says.says
     ]
+stays_shut o bounds words (Some (Ship from)) source source_now desk desk_now asked told runs =
+    elim (runs.ship from refl) as (λ _. StaysShut o.tells o.seen o.stopped desk desk_now) [
+      | inl closed ↦ record { within = None; unopened = closed }
+      | inr on ↦ absurd (on.notes.2 (told from refl))
+    ]
+
+-- Of such a folder nothing was said, or whole frames of what it was found to open to.
+pub frames_said : {D : Type 0} {seen : D → Seen} {stopped : D → Stopped} (tells : Bool) (from : ℕ) (desk desk_now : D)
+    → IsUnopened None tells seen stopped desk desk_now Damaged ⊎ Ships from tells (seen desk) (seen desk_now) Damaged
+    → ((seen desk_now).said ≡ (seen desk).said) ⊎ ((s : State) × ValidState s × SaysOf from s Damaged (seen desk).said (seen desk_now).said)
+frames_said tells from desk desk_now (inl closed) = inl closed.says_nothing
+frames_said tells from desk desk_now (inr on) = inr (on.state, on.valid, on.frames)
 
 -- A told folder has a mark then, so it was left alone.
 not_cut : (A : Type 0) (B : State → Type 0) → A ⊎ ((s : State) × ((Damaged ≡ DiskFault) × B s)) → A

@@ -26,6 +26,7 @@ pub mod GrantedRuns
 pub mod UncompactedRuns
 pub mod ReplayLaws
 pub mod FolderLaws
+pub mod ShipLaws
 pub mod AcknowledgedLaws
 pub mod CompleteRunLaws
 pub mod LeftFolderLaws

@@ -10,6 +10,7 @@ use Rattle.ziti_outside.specs.Untouched.{OnlyNotes}
 use Rattle.ziti_outside.specs.Views.{Outside, Seen, Stopped}
 use Rattle.journal_core.specs.Room.{HoldsRoom}
 use Rattle.journal_core.proofs.RoomLaws.{held_none}
+use Rattle.channel_frame.specs.declared.frames.Frame.{Frame}
 use Rattle.ctrl_model.specs.State.{State, start}
 use Rattle.policy_advisor.specs.Reports.{report_of}
 use Rattle.row_store.specs.declared.bounds.StoreBounds.{StoreBounds}
@@ -18,7 +19,7 @@ use Rattle.ctrl_serve.specs.declared.bounds.Bounds.{Bounds}
 use Rattle.ctrl_serve.specs.declared.command_line.Form as command
 use Rattle.session_mux.specs.declared.sessions.Form.{Form}
 use Rattle.session_mux.specs.declared.sessions.Form.TheVariants.{Plain}
-use Rattle.ctrl_serve.specs.declared.command_line.Form.TheVariants.{Dry, Replay, Audit, Compact, Load, Advise}
+use Rattle.ctrl_serve.specs.declared.command_line.Form.TheVariants.{Dry, Replay, Audit, Compact, Load, Advise, Ship}
 use Rattle.run_notes.specs.declared.status.Status.{Status}
 use Rattle.run_notes.specs.declared.status.Status.TheVariants.{Done, Usage, BadInput, Truncated, ReadFault, WriteFault, DiskFault, Damaged, NoMemory, InputTooLong, FolderFull}
 use Rattle.ctrl_serve.specs.CommandLine.{reads_input}
@@ -29,6 +30,7 @@ use Rattle.run_notes.specs.NotedLines.{FindsNoMore, RisesOnce, NotesLines}
 use Rattle.ctrl_serve.specs.FrameAnswer.{no_bounds, alone, replies}
 use Rattle.ctrl_serve.specs.Headline.{OnlySaysAndNotes, folder_bounds, taking_of, Serves, Taking, IsComplete, IsLeftAlone, IsUnopened, StaysClosed, Refuses, Replays, Runs}
 use Rattle.ctrl_serve.specs.FolderWords.{Advises, Audits, Compacts, EndsCompaction, Looks}
+use Rattle.ctrl_serve.specs.ShipWords.{SaysShipped, Ships}
 use Rattle.ctrl_serve.specs.Loads.{counts_line, state_of_load, SaysOneLine, IsSaid}
 use Rattle.run_notes.specs.Notes.{usage_note}
 use Rattle.ctrl_serve.specs.Runs.{CountsFaults, IsDiskCaused, IsWriteCaused}
@@ -99,6 +101,7 @@ asked_form of (Some Audit) = of
 asked_form of (Some Compact) = of
 asked_form of (Some (Load number)) = of
 asked_form of (Some Advise) = of
+asked_form of (Some (Ship from)) = of
 
 same_form : (of other : Form) → ◌≡◌ {A = Option command.Form} (Some (Replay of)) (Some (Replay other)) → of ≡ other
 same_form of other e = ap (asked_form of) e
@@ -147,6 +150,10 @@ dry_runs o bounds words form source source_now desk desk_now status is serves co
   advise = λ i s w e. cc;
   advise_takes_nothing = λ e. cc;
   advise_changes_nothing = λ e. cc;
+  ship = λ from e. cc;
+  ship_takes_nothing = λ from e. cc;
+  ship_changes_nothing = λ from e. cc;
+  ship_complete = λ from e. cc;
   compact = λ e. cc;
   compact_takes_nothing = λ e. cc;
   compact_says_nothing = λ e. cc;
@@ -211,6 +218,10 @@ replay_runs o of bounds words form source source_now desk desk_now status is rep
       advise = λ i s w e. cc;
       advise_takes_nothing = λ e. cc;
       advise_changes_nothing = λ e. cc;
+      ship = λ from e. cc;
+      ship_takes_nothing = λ from e. cc;
+      ship_changes_nothing = λ from e. cc;
+      ship_complete = λ from e. cc;
       compact = λ e. cc;
       compact_takes_nothing = λ e. cc;
       compact_says_nothing = λ e. cc;
@@ -253,6 +264,10 @@ usage_runs o bounds words form source desk desk_now is others more note counted 
   advise = λ i s w e. cc;
   advise_takes_nothing = λ e. cc;
   advise_changes_nothing = λ e. cc;
+  ship = λ from e. cc;
+  ship_takes_nothing = λ from e. cc;
+  ship_changes_nothing = λ from e. cc;
+  ship_complete = λ from e. cc;
   compact = λ e. cc;
   compact_takes_nothing = λ e. cc;
   compact_says_nothing = λ e. cc;
@@ -325,6 +340,10 @@ load_runs o bounds words form number source desk desk_now status is says write c
       advise = λ i s w e. cc;
       advise_takes_nothing = λ e. cc;
       advise_changes_nothing = λ e. cc;
+      ship = λ from e. cc;
+      ship_takes_nothing = λ from e. cc;
+      ship_changes_nothing = λ from e. cc;
+      ship_complete = λ from e. cc;
       compact = λ e. cc;
       compact_takes_nothing = λ e. cc;
       compact_says_nothing = λ e. cc;
@@ -341,6 +360,7 @@ is_look Audit = true
 is_look Compact = false
 is_look (Load number) = false
 is_look Advise = true
+is_look (Ship from) = true
 
 -- It reads no input, and is no word that does not look.
 look_reads_nothing : (word : command.Form) → is_look word ≡ true → reads_input word ≡ false
@@ -350,6 +370,7 @@ look_reads_nothing Audit looks = refl
 look_reads_nothing Compact looks = absurd (false≢true looks)
 look_reads_nothing (Load number) looks = absurd (false≢true looks)
 look_reads_nothing Advise looks = refl
+look_reads_nothing (Ship from) looks = refl
 
 looks_not : (form : Option command.Form) (word other : command.Form) → is_look word ≡ true → is_look other ≡ false → form ≡ Some word → form ≡ Some other → ⊥
 looks_not form word other looks not is e =
@@ -364,15 +385,22 @@ look_statuses : {D : Type 0} {seen : D → Seen} {stopped : D → Stopped}
 look_statuses line tells desk desk_now status (inl closed) = let not = closed_status None tells _ _ status closed.why in (not.0, not.2)
 look_statuses line tells desk desk_now status (inr on) = let not = line_statuses status _ _ _ on.says in (not.0, not.1)
 
+-- What a shipping ends with, and that it ends with one of three statuses where no call failed.
+abbrev EndsShipping : {D : Type 0} → Bool → (D → Seen) → (D → Stopped) → (from : ℕ) (desk desk_now : D) → Status → Type 0
+EndsShipping tells seen stopped from desk desk_now status =
+    (IsUnopened None tells seen stopped desk desk_now status ⊎ Ships from tells (seen desk) (seen desk_now) status)
+    × ((status ≡ WriteFault → ⊥) → (status ≡ DiskFault → ⊥) → (status ≡ Done) ⊎ (status ≡ Damaged) ⊎ (status ≡ NoMemory))
+
 look_runs : {S D : Type 0} (o : Outside S D) (bounds : Bounds) (words : List (List ℕ)) (form : Option command.Form) (word : command.Form) (source : S) (desk desk_now : D) (status : Status)
     → is_look word ≡ true → form ≡ Some word → (status ≡ Usage → ⊥) × (status ≡ ReadFault → ⊥)
     → (form ≡ Some Audit → IsUnopened None o.tells o.seen o.stopped desk desk_now status ⊎ Audits o.tells (o.seen desk) (o.seen desk_now) status)
     → ((i s : List ℕ) → words ≡ codes "advise" ∷ i ∷ s ∷ [] → form ≡ Some Advise
     → IsUnopened None o.tells o.seen o.stopped desk desk_now status ⊎ Advises i s o.tells (o.seen desk) (o.seen desk_now) status)
+    → ((from : ℕ) → form ≡ Some (Ship from) → EndsShipping o.tells o.seen o.stopped from desk desk_now status)
     → IsLeftAlone o.seen o.stopped desk desk_now → IsWriteCaused (o.seen desk).say_faults (o.seen desk_now).say_faults status → IsDiskCaused (o.seen desk).disk_faults (o.seen desk_now).disk_faults status
     → RisesOnce (o.seen desk).note_faults (o.seen desk_now).note_faults
     → Runs o bounds words form source source desk desk_now status
-look_runs o bounds words form word source desk desk_now status looks is not audits advises alone write disk counted =
+look_runs o bounds words form word source desk desk_now status looks is not audits advises ships alone write disk counted =
     let other : (asked : command.Form) → is_look asked ≡ false → form ≡ Some asked → ⊥ = λ asked none e. looks_not form word asked looks none is e in
     record {
       usage = (λ u. absurd (not.0 u), λ n. cc);
@@ -406,6 +434,10 @@ look_runs o bounds words form word source desk desk_now status looks is not audi
       advise = advises;
       advise_takes_nothing = λ _. refl;
       advise_changes_nothing = λ _. alone;
+      ship = λ from e. (ships from e).0;
+      ship_takes_nothing = λ from _. refl;
+      ship_changes_nothing = λ from _. alone;
+      ship_complete = λ from e says calls. (ships from e).1 (λ w. says (write.rose w)) (λ d. calls (disk.rose d));
       compact = λ e. absurd (other Compact refl e);
       compact_takes_nothing = λ e. refl;
       compact_says_nothing = λ e. absurd (other Compact refl e);
@@ -420,7 +452,7 @@ pub audit_runs : {S D : Type 0} (o : Outside S D) (bounds : Bounds) (words : Lis
     → Runs o bounds words form source source desk desk_now status
 audit_runs o bounds words form source desk desk_now status is audits alone write disk counted =
     look_runs o bounds words form Audit source desk desk_now status refl is (look_statuses {seen = o.seen} {stopped = o.stopped} counts_line o.tells desk desk_now status audits)
-    (λ _. audits) (λ i s w e. cc) alone write disk counted
+    (λ _. audits) (λ i s w e. cc) (λ from e. cc) alone write disk counted
 
 pub advise_runs : {S D : Type 0} (o : Outside S D) (bounds : Bounds) (words : List (List ℕ)) (form : Option command.Form) (source : S) (desk desk_now : D) (status : Status) → form ≡ Some Advise
     → AreAdviseWords words
@@ -432,7 +464,72 @@ pub advise_runs : {S D : Type 0} (o : Outside S D) (bounds : Bounds) (words : Li
 advise_runs o bounds words form source desk desk_now status is named advises alone write disk counted =
     look_runs o bounds words form Advise source desk desk_now status refl is
     (look_statuses {seen = o.seen} {stopped = o.stopped} (λ s. report_of s named.identity named.service) o.tells desk desk_now status (advises named.identity named.service named.are))
-    (λ e. cc) (λ i s w _. advises i s w) alone write disk counted
+    (λ e. cc) (λ i s w _. advises i s w) (λ from e. cc) alone write disk counted
+
+-- ---- a shipping of a folder
+
+-- A shipping ships from one serial on.
+one_serial : (form : Option command.Form) (m n : ℕ) → form ≡ Some (Ship m) → form ≡ Some (Ship n) → m ≡ n
+one_serial form m n is e = cc
+
+-- What it says comes with none of these statuses.
+shipped_statuses : (tells : Bool) (from : ℕ) (before now : Seen) (status : Status) → Ships from tells before now status → (status ≡ Usage → ⊥) × (status ≡ ReadFault → ⊥)
+shipped_statuses tells from before now status ships =
+    let not = ends_otherwise (λ (u : Status). Ships from tells before now u) status ships in
+    (not Usage (λ t. t.frames.said), not ReadFault (λ t. t.frames.said))
+
+ship_statuses : {D : Type 0} {seen : D → Seen} {stopped : D → Stopped}
+    (tells : Bool) (from : ℕ) (desk desk_now : D) (status : Status) → IsUnopened None tells seen stopped desk desk_now status ⊎ Ships from tells (seen desk) (seen desk_now) status
+    → (status ≡ Usage → ⊥) × (status ≡ ReadFault → ⊥)
+ship_statuses tells from desk desk_now status (inl closed) = let not = closed_status None tells _ _ status closed.why in (not.0, not.2)
+ship_statuses {seen = seen} tells from desk desk_now status (inr on) = shipped_statuses tells from (seen desk) (seen desk_now) status on
+
+-- Where no call failed it ends with one of three.
+closed_calmly : (tells : Bool) (before now : Seen) (status : Status) → StaysClosed None tells before now status → (status ≡ DiskFault → ⊥) → (status ≡ Done) ⊎ (status ≡ Damaged) ⊎ (status ≡ NoMemory)
+closed_calmly tells before now Done why disk = absurd why
+closed_calmly tells before now Usage why disk = absurd why
+closed_calmly tells before now BadInput why disk = absurd why
+closed_calmly tells before now Truncated why disk = absurd why
+closed_calmly tells before now ReadFault why disk = absurd why
+closed_calmly tells before now WriteFault why disk = absurd why
+closed_calmly tells before now DiskFault why disk = absurd (disk refl)
+closed_calmly tells before now Damaged why disk = inr (inl refl)
+closed_calmly tells before now NoMemory why disk = inr (inr refl)
+closed_calmly tells before now InputTooLong why disk = absurd why
+closed_calmly tells before now FolderFull why disk = absurd why.1
+
+shipped_calmly : (before now : Option (List ℕ)) (all : List Frame) (status : Status) → SaysShipped status before now all → (status ≡ WriteFault → ⊥) → (status ≡ DiskFault → ⊥)
+    → (status ≡ Done) ⊎ (status ≡ Damaged) ⊎ (status ≡ NoMemory)
+shipped_calmly before now all Done says write disk = inl refl
+shipped_calmly before now all Usage says write disk = absurd says
+shipped_calmly before now all BadInput says write disk = absurd says
+shipped_calmly before now all Truncated says write disk = absurd says
+shipped_calmly before now all ReadFault says write disk = absurd says
+shipped_calmly before now all WriteFault says write disk = absurd (write refl)
+shipped_calmly before now all DiskFault says write disk = absurd (disk refl)
+shipped_calmly before now all Damaged says write disk = inr (inl refl)
+shipped_calmly before now all NoMemory says write disk = inr (inr refl)
+shipped_calmly before now all InputTooLong says write disk = absurd says
+shipped_calmly before now all FolderFull says write disk = absurd says
+
+ships_calmly : {D : Type 0} {seen : D → Seen} {stopped : D → Stopped}
+    (tells : Bool) (from : ℕ) (desk desk_now : D) (status : Status) → IsUnopened None tells seen stopped desk desk_now status ⊎ Ships from tells (seen desk) (seen desk_now) status
+    → (status ≡ WriteFault → ⊥) → (status ≡ DiskFault → ⊥) → (status ≡ Done) ⊎ (status ≡ Damaged) ⊎ (status ≡ NoMemory)
+ships_calmly {seen = seen} tells from desk desk_now status (inl closed) write disk = closed_calmly tells (seen desk) (seen desk_now) status closed.why disk
+ships_calmly tells from desk desk_now status (inr on) write disk = shipped_calmly _ _ on.frames.all status on.frames.said write disk
+
+pub ship_runs : {S D : Type 0} (o : Outside S D) (bounds : Bounds) (words : List (List ℕ)) (form : Option command.Form) (number : ℕ) (source : S) (desk desk_now : D) (status : Status) → form ≡ Some (Ship number)
+    → IsUnopened None o.tells o.seen o.stopped desk desk_now status
+    ⊎ Ships number o.tells (o.seen desk) (o.seen desk_now) status
+    → IsLeftAlone o.seen o.stopped desk desk_now → IsWriteCaused (o.seen desk).say_faults (o.seen desk_now).say_faults status → IsDiskCaused (o.seen desk).disk_faults (o.seen desk_now).disk_faults status
+    → RisesOnce (o.seen desk).note_faults (o.seen desk_now).note_faults
+    → Runs o bounds words form source source desk desk_now status
+ship_runs o bounds words form number source desk desk_now status is ships alone write disk counted =
+    look_runs o bounds words form (Ship number) source desk desk_now status refl is (ship_statuses {seen = o.seen} {stopped = o.stopped} o.tells number desk desk_now status ships)
+    (λ e. cc) (λ i s w e. cc)
+    (λ from e. subst (λ (n : ℕ). EndsShipping o.tells o.seen o.stopped n desk desk_now status) (one_serial form number from is e)
+    (ships, ships_calmly {seen = o.seen} {stopped = o.stopped} o.tells number desk desk_now status ships))
+    alone write disk counted
 
 -- ---- the compaction of a folder
 
@@ -491,6 +588,10 @@ compact_runs o bounds words form source desk desk_now status is compacts quiet s
       advise = λ i s w e. cc;
       advise_takes_nothing = λ e. cc;
       advise_changes_nothing = λ e. cc;
+      ship = λ from e. cc;
+      ship_takes_nothing = λ from e. cc;
+      ship_changes_nothing = λ from e. cc;
+      ship_complete = λ from e. cc;
       compact = λ _. compacts;
       compact_takes_nothing = λ _. refl;
       compact_says_nothing = λ _. quiet;

@@ -8,20 +8,20 @@ use Rattle.std.specs.String.{string_bytes}
 use Rattle.std.specs.declared.string.String.{String}
 use Rattle.ctrl_model.specs.NameForm.{is_name}
 use Rattle.ctrl_serve.specs.declared.command_line.Form.{Form}
-use Rattle.ctrl_serve.specs.declared.command_line.Form.TheVariants.{Dry, Replay, Audit, Compact, Load, Advise}
+use Rattle.ctrl_serve.specs.declared.command_line.Form.TheVariants.{Dry, Replay, Audit, Compact, Load, Advise, Ship}
 use Rattle.session_mux.specs.declared.sessions.Form.TheVariants.{Plain, Trace}
 
 -- The bytes of each word.
 abbrev pub texts : {A : Type 0} → List (String A) → List (List ℕ)
 texts words = map string_bytes words
 
--- A word is the decimal text of a number below 2^32.
-abbrev pub is_text_of : List ℕ → ℕ → Bool
-is_text_of word number = bytes_eq word (decimal number) && nat_lt number (2 ^ 32)
+-- A word is the decimal text of a number below a bound.
+abbrev pub is_text_of : (bound : ℕ) → List ℕ → ℕ → Bool
+is_text_of bound word number = bytes_eq word (decimal number) && nat_lt number bound
 
--- The number whose decimal text a word is, if it is below 2^32: no sign stands before its digits, and no zero before another digit.
-abbrev pub number_of_word : List ℕ → Option ℕ
-number_of_word word = if is_text_of word (digits_value 10 word) then Some (digits_value 10 word) else None
+-- The number below a bound whose decimal text a word is: no sign stands before its digits, and no zero before another digit.
+abbrev pub number_below : (bound : ℕ) → List ℕ → Option ℕ
+number_below bound word = if is_text_of bound word (digits_value 10 word) then Some (digits_value 10 word) else None
 
 -- A text begins with a plus, or with a zero before another byte. Private contracts alone cite it.
 abbrev pub is_padded : List ℕ → Bool
@@ -38,7 +38,8 @@ form_of (word ∷ []) =
     else if bytes_eq word (codes "audit") then Some Audit
     else if bytes_eq word (codes "compact") then Some Compact else None
 form_of (word ∷ next ∷ []) =
-    if bytes_eq word (codes "load") then option_map Load (number_of_word next)
+    if bytes_eq word (codes "load") then option_map Load (number_below (2 ^ 32) next)
+    else if bytes_eq word (codes "ship") then option_map Ship (number_below (2 ^ 64) next)
     else if bytes_eq word (codes "replay") && bytes_eq next (codes "--sessions") then Some (Replay Trace) else None
 form_of (word ∷ next ∷ third ∷ []) = if bytes_eq word (codes "advise") && (is_name next && is_name third) then Some Advise else None
 form_of (word ∷ next ∷ third ∷ fourth ∷ words) = None
@@ -51,3 +52,4 @@ reads_input Audit = false
 reads_input Compact = false
 reads_input (Load number) = false
 reads_input Advise = false
+reads_input (Ship from) = false

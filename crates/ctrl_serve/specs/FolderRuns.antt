@@ -1,4 +1,4 @@
--- What is told of a folder that was not opened, and of a compaction. Only private contracts cite these.
+-- What is told of a folder that was not opened or not shipped to its end, and of a compaction. Only private contracts cite these.
 use Rattle.std.specs.Prelude.{◌≡◌, ℕ, List, [], None, Some, Ok, Err}
 use Rattle.std.specs.declared.option.Option.{Option}
 use Rattle.std.specs.declared.result.Result.{Result}
@@ -8,6 +8,8 @@ use Rattle.ctrl_model.specs.declared.replies.Reply.{Reply}
 use Rattle.ctrl_model.specs.declared.replies.Reply.TheVariants.{Refused}
 use Rattle.ctrl_keep.specs.declared.faults.KeepFault.{KeepFault}
 use Rattle.ctrl_keep.specs.declared.faults.KeepFault.TheVariants as keep
+use Rattle.ship_core.specs.declared.faults.ShipFault.{ShipFault}
+use Rattle.ship_core.specs.declared.faults.ShipFault.TheVariants as ship
 use Rattle.run_notes.specs.declared.ends.Full.{Full}
 use Rattle.run_notes.specs.declared.ends.Full.TheVariants as full
 use Rattle.run_notes.specs.declared.status.Status.{Status}
@@ -27,6 +29,13 @@ TellsClosed keep.MarkFull status before now = TellsEnd ending.FolderFull (full_n
 TellsClosed (keep.Damaged part at) status before now = TellsEnd ending.Damaged (damaged_note part at) status before now
 TellsClosed keep.Spent status before now = ⊥
 TellsClosed keep.NoMemory status before now = TellsEnd ending.NoMemory (status_lines [] ending.NoMemory) status before now
+
+-- What was told of a folder that was not shipped to its end, by the fault of the shipping.
+abbrev pub TellsUnshipped : ShipFault → (status : Status) → (before now : Seen) → Type 0
+TellsUnshipped ship.Disk status before now = TellsEnd ending.DiskFault (status_lines [] ending.DiskFault) status before now
+TellsUnshipped ship.Write status before now = TellsEnd ending.WriteFault (status_lines [] ending.WriteFault) status before now
+TellsUnshipped (ship.Damaged part at) status before now = TellsEnd ending.Damaged (damaged_note part at) status before now
+TellsUnshipped ship.NoMemory status before now = TellsEnd ending.NoMemory (status_lines [] ending.NoMemory) status before now
 
 -- The part without room, if that is why a reply refuses.
 abbrev pub full_in : Reply → Option Full

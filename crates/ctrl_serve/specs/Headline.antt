@@ -24,7 +24,7 @@ use Rattle.session_mux.specs.declared.events.Event.{Event}
 use Rattle.session_mux.specs.declared.sessions.Form.{Form}
 use Rattle.session_mux.specs.declared.sessions.Form.TheVariants.{Plain}
 use Rattle.ctrl_serve.specs.declared.command_line.Form as command
-use Rattle.ctrl_serve.specs.declared.command_line.Form.TheVariants.{Dry, Replay, Audit, Compact, Load, Advise}
+use Rattle.ctrl_serve.specs.declared.command_line.Form.TheVariants.{Dry, Replay, Audit, Compact, Load, Advise, Ship}
 use Rattle.run_notes.specs.declared.ends.Full.{Full}
 use Rattle.run_notes.specs.declared.status.Status.{Status}
 use Rattle.run_notes.specs.declared.status.Status.TheVariants.{Done, Usage, ReadFault, WriteFault, DiskFault, Damaged, NoMemory, FolderFull}
@@ -38,6 +38,7 @@ use Rattle.run_notes.specs.Endings.{ending, is_cut, is_kept}
 use Rattle.ctrl_serve.specs.SaidReplies.{Says}
 use Rattle.ctrl_serve.specs.Loads.{counts_line, state_of_load, SaysOneLine, IsSaid}
 use Rattle.ctrl_serve.specs.FolderWords.{Advises, Audits, Compacts}
+use Rattle.ctrl_serve.specs.ShipWords.{Ships}
 use Rattle.ctrl_serve.specs.RunStops.{AllOpenTo, StopFinds}
 use Rattle.ctrl_serve.specs.MigratedRuns.{CutsMigration, HasRoomToOpen, IsToldFull, LeftByMigration}
 use Rattle.ctrl_serve.specs.UnsaidReplies.{KeepsOneAhead}
@@ -208,6 +209,9 @@ pub record Replays {S D : Type 0} (taking : Taking) (bounds : StoreBounds) (o : 
 --
 -- Under `advise I S`, whose last two words are names, the same holds of the report on the identity and the service of these names.
 --
+-- Under `ship N` nothing is taken, and the folder is left alone, in either format. Where it opens to a state, its batches from the serial N on are
+-- said as frames; where it opens to none, nothing is said. Where no call failed the run is done, or the folder is damaged or memory is wanting.
+--
 -- Under `compact` nothing is taken and said. The folder is opened first, as under `replay`; where it opens to a machine, it is compacted, or the
 -- compaction is refused for want of room, with the status FolderFull, which also tells that it has no room to be migrated.
 --
@@ -252,6 +256,13 @@ pub record Runs {S D : Type 0} (o : Outside S D) (bounds : Bounds) (words : List
       ⊎ Advises i s o.tells (o.seen desk) (o.seen desk_now) status
   pub advise_takes_nothing : form ≡ Some Advise → source_now ≡ source
   pub advise_changes_nothing : form ≡ Some Advise → IsLeftAlone o.seen o.stopped desk desk_now
+  pub ship : (from : ℕ) → form ≡ Some (Ship from)
+      → IsUnopened None o.tells o.seen o.stopped desk desk_now status
+      ⊎ Ships from o.tells (o.seen desk) (o.seen desk_now) status
+  pub ship_takes_nothing : (from : ℕ) → form ≡ Some (Ship from) → source_now ≡ source
+  pub ship_changes_nothing : (from : ℕ) → form ≡ Some (Ship from) → IsLeftAlone o.seen o.stopped desk desk_now
+  pub ship_complete : (from : ℕ) → form ≡ Some (Ship from) → (Rose (o.seen desk).say_faults (o.seen desk_now).say_faults → ⊥) → (Rose (o.seen desk).disk_faults (o.seen desk_now).disk_faults → ⊥)
+      → (status ≡ Done) ⊎ (status ≡ Damaged) ⊎ (status ≡ NoMemory)
   pub compact : form ≡ Some Compact
       → IsUnopened (Some (folder_bounds bounds)) o.tells o.seen o.stopped desk desk_now status
       ⊎ Compacts (folder_bounds bounds) o.tells (o.seen desk) (o.seen desk_now) (o.stopped desk) (o.stopped desk_now) status

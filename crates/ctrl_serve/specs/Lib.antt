@@ -10,6 +10,7 @@ pub mod Loads
 pub mod RunStops
 pub mod UnsaidReplies
 pub mod FolderWords
+pub mod ShipWords
 pub mod FolderRuns
 pub mod UncompactedFolders
 pub mod LookedLines

@@ -1,5 +1,5 @@
-ghost use Rattle.std.specs.Prelude.{◌≡◌};
-ghost use Rattle.ctrl_serve.specs.CommandLine.{form_of, is_padded, number_of_word, texts};
+ghost use Rattle.std.specs.Prelude.{◌≡◌, ◌^◌};
+ghost use Rattle.ctrl_serve.specs.CommandLine.{form_of, is_padded, number_below, texts};
 
 use ctrl_model::Name;
 
@@ -18,6 +18,8 @@ pub enum Form {
     Load(u32),
     /// The advice on an identity and a service, by the folder, which is left alone. Their names are the second and the third word.
     Advise,
+    /// The shipping of the folder from this serial on. It is left alone.
+    Ship(u64),
 }
 
 // Whether a text begins with a plus, or with a zero before another byte.
@@ -27,17 +29,25 @@ fn is_padded(text: &[u8]) -> bool
     matches!(text, [b'+', ..] | [b'0', _, ..])
 }
 
-// The number whose decimal text the word is, if it is below 2^32.
-fn number_of_word(word: &str) -> Option<u32>
-    ensures { result ≡ number_of_word word.now }
+// The number whose decimal text the word is, if it is below 2^64.
+fn number_of_word(word: &str) -> Option<u64>
+    ensures { result ≡ number_below (2 ^ 64) word.now }
 {
     if is_padded(word.as_bytes()) {
         return None;
     }
-    word.parse::<u32>().ok()
+    word.parse::<u64>().ok()
 }
 
-/// What the words run, if they are a line of the table of words: `dry`, `replay`, `replay --sessions`, `audit`, `compact`, `load N` and
+// The number whose decimal text the word is, if it is below 2^32.
+fn small_number_of_word(word: &str) -> Option<u32>
+    ensures { result ≡ number_below (2 ^ 32) word.now }
+{
+    let number = number_of_word(word)?;
+    u32::try_from(number).ok()
+}
+
+/// What the words run, if they are a line of the table of words: `dry`, `replay`, `replay --sessions`, `audit`, `compact`, `load N`, `ship N` and
 /// `advise I S`, of which the last two are names.
 pub fn form_of(words: &[String]) -> Option<Form>
     ensures { result ≡ form_of (texts words.now) }
@@ -50,8 +60,14 @@ pub fn form_of(words: &[String]) -> Option<Form>
         [word] if word.as_bytes() == b"audit".as_slice() => Some(Form::Audit),
         [word] if word.as_bytes() == b"compact".as_slice() => Some(Form::Compact),
         [word, number] if word.as_bytes() == b"load".as_slice() => {
-            match number_of_word(number.as_str()) {
+            match small_number_of_word(number.as_str()) {
                 Some(number) => Some(Form::Load(number)),
+                None => None,
+            }
+        }
+        [word, number] if word.as_bytes() == b"ship".as_slice() => {
+            match number_of_word(number.as_str()) {
+                Some(number) => Some(Form::Ship(number)),
                 None => None,
             }
         }

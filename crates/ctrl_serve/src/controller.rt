@@ -1,8 +1,7 @@
-ghost use Rattle.std.specs.Prelude.{◌≡◌, ◌⊎◌, ◌≢◌, true, false, None, IsTrue, IsSome, OnOk, IfOk, IfErr, Ok, Err};
+ghost use Rattle.std.specs.Prelude.{◌≡◌, ◌⊎◌, ◌≢◌, true, None, IsTrue, IsSome, OnOk, IfOk, IfErr, Ok, Err};
 ghost use Rattle.ctrl_keep.specs.KeptMachine.{step};
 ghost use Rattle.row_store.specs.OpenedStates.{OpensToState};
 ghost use Rattle.ctrl_model.specs.CommandForm.{is_spelled};
-ghost use Rattle.ctrl_model.specs.InterceptCommands.{is_intercept_command};
 ghost use Rattle.ctrl_model.specs.Controller.{answer, carry};
 ghost use Rattle.journal_core.specs.Room.{HoldsRoom};
 ghost use Rattle.ctrl_serve.specs.ControllerViews.{serving_of};
@@ -34,7 +33,6 @@ pub enum Controller {
 fn carry_permitted(core: &mut Core, command: &Command) -> Result<Reply, AllocError>
     requires live { core.old.live ≡ true }
     requires spelled { is_spelled command.now ≡ true }
-    requires other { is_intercept_command command.now ≡ false }
     ensures ok { IfOk result (λ r. (r, core.new.state) ≡ carry command.now core.old.state) }
     ensures live { OnOk result (core.new.live ≡ true) }
     ensures limits { IfOk result (λ r. keeps_limits r ≡ true) }
@@ -50,7 +48,6 @@ pub(crate) fn carry_alone(
 ) -> Result<Reply, AllocError>
     requires live { core.old.live ≡ true }
     requires spelled { is_spelled command.now ≡ true }
-    requires other { is_intercept_command command.now ≡ false }
     ensures ok { IfOk result (λ r. (r, core.new.state) ≡ answer who.now command.now core.old.state) }
     ensures live { OnOk result (core.new.live ≡ true) }
     ensures limits { IfOk result (λ r. keeps_limits r ≡ true) }
@@ -85,7 +82,6 @@ impl Controller {
         requires able { (serving_of self.old).able ≡ true }
         requires ready { IsReadyOn D.tells D.seen D.stopped desk.old (serving_of self.old) }
         requires spelled { is_spelled command.now ≡ true }
-        requires other { is_intercept_command command.now ≡ false }
         ensures ok { IfOk result (λ r. (r, (serving_of self.new).machine) ≡ step (serving_of self.old).bounds who.now command.now (serving_of self.old).machine) }
         ensures on { OnOk result (GoesOn (serving_of self.old) (serving_of self.new)) }
         ensures follows { OnOk result (FollowsStep D.tells D.seen desk.old desk.new (serving_of self.old) (serving_of self.new)) }

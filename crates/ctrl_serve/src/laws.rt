@@ -4,9 +4,14 @@ ghost use Rattle.channel_frame.specs.declared.frames.Frame.{Frame};
 ghost use Rattle.channel_frame.specs.StreamReading.{Reads, fault_of, frames_of, rest_of};
 ghost use Rattle.ctrl_model.specs.declared.kinds.Who.TheVariants.{Admin};
 ghost use Rattle.ctrl_model.specs.State.{State};
+ghost use Rattle.ctrl_model.specs.ValidState.{ValidState};
 ghost use Rattle.ctrl_keep.specs.KeptMachine.{Machine};
 ghost use Rattle.policy_advisor.specs.Reports.{report_of};
+ghost use Rattle.ctrl_model.specs.declared.formats.Format.{Format};
+ghost use Rattle.slot_files.specs.FolderImage.{Stands};
 ghost use Rattle.row_store.specs.OpenedStates.{OpensToState, IsStateless};
+ghost use Rattle.ship_core.specs.Pieces.{written};
+ghost use Rattle.ship_core.specs.Shipping.{shipped};
 ghost use Rattle.ctrl_keep.specs.MigratedFolders.{OpensInFirst};
 ghost use Rattle.row_store.specs.declared.bounds.StoreBounds.{StoreBounds};
 ghost use Rattle.session_mux.specs.declared.events.Event.{Event};
@@ -32,11 +37,12 @@ ghost use Rattle.ctrl_serve.specs.Headline.{Serves, Replays, Runs, Taking, takin
 ghost use Rattle.ctrl_serve.specs.LeftFolders.{HoldsAlone, HoldsGranted, KeepsAllFrames};
 ghost use Rattle.ctrl_serve.specs.UncompactedFolders.{ask_for_compact, CompactsNothing, LeavesOtherSlot};
 ghost use Rattle.ctrl_serve.specs.Loads.{counts_line, IsSaid, SaysOneLine};
+ghost use Rattle.ctrl_serve.specs.ShipWords.{SaysOf};
 ghost use Rattle.ctrl_serve.specs.RunStops.{StopFinds, HoldsFirst};
 ghost use Rattle.ctrl_serve.specs.OpenedFolders.{OpensTo};
-ghost use Rattle.ctrl_serve.specs.CommandLine.{form_of, number_of_word};
+ghost use Rattle.ctrl_serve.specs.CommandLine.{form_of, number_below};
 ghost use Rattle.ctrl_serve.specs.declared.command_line.Form as command;
-ghost use Rattle.ctrl_serve.specs.declared.command_line.Form.TheVariants.{Replay, Audit, Compact, Advise};
+ghost use Rattle.ctrl_serve.specs.declared.command_line.Form.TheVariants.{Replay, Audit, Compact, Advise, Ship};
 ghost use Rattle.ctrl_serve.specs.CompleteRuns.{IsCalm, IsFull, CompletesFrom, ComesOutFrom};
 ghost use Rattle.ziti_outside.specs.Views.{Seen};
 ghost use Rattle.ctrl_serve.specs.declared.bounds.Bounds.{Bounds};
@@ -134,11 +140,11 @@ pub fn done_says_the_line()
     ensures noted { (line : List ℕ) (before now : Seen) → SaysOneLine line before now Done → Took before.noted now.noted [] }
 {}
 
-/// The words that have a number are the decimal texts of the numbers below 2^32, each of its own.
+/// The words that have a number below a bound are the decimal texts of the numbers below it, each of its own.
 pub fn numbers_have_one_word()
-    ensures text { (word : List ℕ) (number : ℕ) → number_of_word word ≡ Some number → word ≡ decimal number }
-    ensures below { (word : List ℕ) (number : ℕ) → number_of_word word ≡ Some number → number < 2 ^ 32 }
-    ensures number { (number : ℕ) → number < 2 ^ 32 → number_of_word (decimal number) ≡ Some number }
+    ensures text { (bound : ℕ) (word : List ℕ) (number : ℕ) → number_below bound word ≡ Some number → word ≡ decimal number }
+    ensures below { (bound : ℕ) (word : List ℕ) (number : ℕ) → number_below bound word ≡ Some number → number < bound }
+    ensures number { (bound number : ℕ) → bound ≤ 2 ^ 64 → number < bound → number_below bound (decimal number) ≡ Some number }
 {}
 
 /// What a stop within a run finds holds every frame whose reply was taken whole, and at most one frame more. If of the reply bytes that were taken
@@ -175,8 +181,9 @@ pub fn runs_without_compact_leave_the_other_slot<S: Source, D: Desk>()
 /// What a run on a folder comes to where no call failed, those of notes aside, and the folder tells its bytes and opens to a state. Want of memory
 /// is the one thing that may still cut it short. Otherwise `replay` and `compact` end with FolderFull exactly where the folder is one of the first
 /// format and has no room to be migrated. Where it has room, `replay` is complete from the machine of that state: it ended as the bytes
-/// decide, and all replies were said; `audit` is done, and said the counts line of that state, and `advise` the report of that state on its two names; and `compact` was done, or was refused for want of room where
-/// the machine's step refuses it.
+/// decide, and all replies were said; `audit` is done, and said the counts line of that state, and `advise` the report of that state on its two names;
+/// `ship` is done, and said all that is shipped of the batches for which the folder stands; and `compact` was done, or was refused for want of room
+/// where the machine's step refuses it.
 pub fn runs_are_complete<S: Source, D: Desk>()
     ensures replay { (bounds : Bounds) (words : List (List ℕ)) (form : Form) (source source_now : S) (desk desk_now : D) (status : Status) (s : State)
         → Runs (record { left = S.left; faults = S.faults; tells = D.tells; seen = D.seen; stopped = D.stopped }) bounds words (Some (Replay form)) source source_now desk desk_now status
@@ -190,6 +197,10 @@ pub fn runs_are_complete<S: Source, D: Desk>()
         → Runs (record { left = S.left; faults = S.faults; tells = D.tells; seen = D.seen; stopped = D.stopped }) bounds (codes "advise" ∷ identity ∷ service ∷ []) (Some Advise) source source_now desk desk_now status
         → IsTrue D.tells → OpensToState (D.seen desk).reads s → IsCalm (D.seen desk).say_faults (D.seen desk_now).say_faults → IsCalm (D.seen desk).disk_faults (D.seen desk_now).disk_faults
         → IsSaid (report_of s identity service) (D.seen desk).said (D.seen desk_now).said status }
+    ensures ship { (bounds : Bounds) (words : List (List ℕ)) (from : ℕ) (source source_now : S) (desk desk_now : D) (status : Status) (s : State) (format : Format) (batches : List (List ℕ))
+        → Runs (record { left = S.left; faults = S.faults; tells = D.tells; seen = D.seen; stopped = D.stopped }) bounds words (Some (Ship from)) source source_now desk desk_now status
+        → IsTrue D.tells → OpensToState (D.seen desk).reads s → Stands format (D.seen desk).reads batches → IsCalm (D.seen desk).say_faults (D.seen desk_now).say_faults → IsCalm (D.seen desk).disk_faults (D.seen desk_now).disk_faults
+        → IsSaid (written (shipped from format batches)) (D.seen desk).said (D.seen desk_now).said status }
     ensures compact { (bounds : Bounds) (words : List (List ℕ)) (source source_now : S) (desk desk_now : D) (status : Status) (s : State)
         → Runs (record { left = S.left; faults = S.faults; tells = D.tells; seen = D.seen; stopped = D.stopped }) bounds words (Some Compact) source source_now desk desk_now status
         → IsTrue D.tells → OpensToState (D.seen desk).reads s → IsCalm (D.seen desk).disk_faults (D.seen desk_now).disk_faults
@@ -250,15 +261,20 @@ pub fn done_compacts_all<S: Source, D: Desk>()
         → IsTrue D.tells → OpensToState (D.seen desk).reads s → HoldsAlone s (D.seen desk).reads (D.seen desk_now).reads (D.stopped desk_now).images }
 {}
 
-/// What `Damaged` says under any words: nothing was taken and nothing said. A told folder was left alone, every part of it and all that a stop
-/// may leave at any moment; and it opens to no state, at the place that the note names.
+/// What `Damaged` says under any words: nothing was taken, and nothing said, unless the folder is not told and was shipped: then whole frames were,
+/// which are shipped of a valid state that it was found to have.
+/// A told folder was left alone, every part of it and all that a stop may leave at any moment; and it opens to no state, at the place that the
+/// note names.
 pub fn damage_changes_nothing<S: Source, D: Desk>()
     ensures input { (bounds : Bounds) (words : List (List ℕ)) (source source_now : S) (desk desk_now : D)
         → Runs (record { left = S.left; faults = S.faults; tells = D.tells; seen = D.seen; stopped = D.stopped }) bounds words (form_of words) source source_now desk desk_now Damaged
         → source_now ≡ source }
     ensures replies { (bounds : Bounds) (words : List (List ℕ)) (source source_now : S) (desk desk_now : D)
         → Runs (record { left = S.left; faults = S.faults; tells = D.tells; seen = D.seen; stopped = D.stopped }) bounds words (form_of words) source source_now desk desk_now Damaged
-        → (D.seen desk_now).said ≡ (D.seen desk).said }
+        → ((from : ℕ) → form_of words ≡ Some (Ship from) → IsTrue D.tells) → (D.seen desk_now).said ≡ (D.seen desk).said }
+    ensures shipped { (bounds : Bounds) (words : List (List ℕ)) (from : ℕ) (source source_now : S) (desk desk_now : D)
+        → Runs (record { left = S.left; faults = S.faults; tells = D.tells; seen = D.seen; stopped = D.stopped }) bounds words (Some (Ship from)) source source_now desk desk_now Damaged
+        → ((D.seen desk_now).said ≡ (D.seen desk).said) ⊎ ((s : State) × ValidState s × SaysOf from s Damaged (D.seen desk).said (D.seen desk_now).said) }
     ensures folder { (bounds : Bounds) (words : List (List ℕ)) (source source_now : S) (desk desk_now : D)
         → Runs (record { left = S.left; faults = S.faults; tells = D.tells; seen = D.seen; stopped = D.stopped }) bounds words (form_of words) source source_now desk desk_now Damaged
         → IsTrue D.tells → IsLeftAlone D.seen D.stopped desk desk_now }

@@ -1,5 +1,5 @@
 //! The top call of the controller. By the words it reads the input, answers each whole frame and says the replies; or it looks at the
-//! folder, compacts it, or answers a generated load.
+//! folder, ships or compacts it, or answers a generated load.
 #![tactic(auto)]
 
 mod bounds;
@@ -12,6 +12,7 @@ mod loads;
 mod looking;
 mod pieces;
 mod serving;
+mod shipping;
 mod top;
 mod worked;
 

@@ -19,6 +19,7 @@ use crate::folder::{run_compact, run_look, tell_closed};
 use crate::loads::run_load;
 use crate::looking::Look;
 use crate::pieces::serve_input;
+use crate::shipping::run_ship;
 use ctrl_core::Core;
 use ctrl_keep::Kept;
 use row_store::StoreBounds;
@@ -134,12 +135,12 @@ fn run_advise<D: Desk>(alloc: Global, words: &[String], desk: &mut D) -> Status
 
 /// Runs the controller on the words after the program's name, within bounds.
 ///
-/// The lines of words are `dry`, `replay`, `replay --sessions`, `audit`, `compact`, `load N` and `advise I S`. Under the first three the input is taken, up
+/// The lines of words are `dry`, `replay`, `replay --sessions`, `audit`, `compact`, `load N`, `advise I S` and `ship N`. Under the first three the input is taken, up
 /// to `bounds.input` bytes and at most 65,536 at a time; its whole frames are answered in the order in which they are completed, each before
 /// more is taken, and their replies are said. A fault of plain input and a bad record of a trace end the reading. Of the input one piece is
 /// held, and of each live session at most one unfinished frame. Under `replay` the folder is opened before, and keeps each change before its
 /// reply is said. The others take nothing. Under `audit` the folder is read alone, and the counts line of its state is said; under `advise I S` the
-/// report on the identity and the service of these names. `compact` compacts the folder, or ends with `FolderFull` where its bounds have no room. Under `load N` the generated frames of the number are answered
+/// report on the identity and the service of these names, and under `ship N` what the folder keeps from the serial N on, as frames. `compact` compacts the folder, or ends with `FolderFull` where its bounds have no room. Under `load N` the generated frames of the number are answered
 /// without a folder, and the counts line is said. At the end no slot of the folder reads longer than `bounds.slot` bytes, unless it read longer at
 /// the start; then it reads no longer than that, and so it is of what a stop may leave. Want of memory may end the run early, with the status
 /// `NoMemory`; it is the one answer without a cause in the contract. docs/PROMISES.md tells what each part of the clause promises.
@@ -161,6 +162,7 @@ pub fn run_within<S: Source, D: Desk>(
         Some(Form::Compact) => run_compact(alloc, store_bounds(bounds), desk),
         Some(Form::Load(number)) => run_load(alloc, number, desk),
         Some(Form::Advise) => run_advise(alloc, words.as_slice(), desk),
+        Some(Form::Ship(from)) => run_ship(alloc, from, desk),
         None => {
             note_lines(status_line(Status::Usage), desk);
             Status::Usage

@@ -1,4 +1,4 @@
-ghost use Rattle.std.specs.Prelude.{◌≡◌, [], ◌∷◌, ◌++◌, true, false, codes, take, None, Some};
+ghost use Rattle.std.specs.Prelude.{◌≡◌, ◌^◌, [], ◌∷◌, ◌++◌, true, false, codes, take, None, Some};
 ghost use Rattle.ziti_outside.specs.Images.{Image};
 ghost use Rattle.channel_frame.specs.FrameSpelling.{spelling};
 ghost use Rattle.command_codec.specs.BodyMeaning.{meaning};
@@ -13,8 +13,8 @@ ghost use Rattle.ctrl_model.specs.State.{start};
 ghost use Rattle.row_store.specs.OpenedStates.{OpensToState};
 ghost use Rattle.row_store.specs.WorkedStores.{three_parts};
 ghost use Rattle.ctrl_keep.specs.WorkedMachines.{at_most, machine_at, marked};
-ghost use Rattle.ctrl_serve.specs.CommandLine.{form_of, number_of_word};
-ghost use Rattle.ctrl_serve.specs.declared.command_line.Form.TheVariants.{Dry, Replay, Audit, Compact, Load, Advise};
+ghost use Rattle.ctrl_serve.specs.CommandLine.{form_of, number_below};
+ghost use Rattle.ctrl_serve.specs.declared.command_line.Form.TheVariants.{Dry, Replay, Audit, Compact, Load, Advise, Ship};
 ghost use Rattle.session_mux.specs.declared.sessions.Form.TheVariants.{Plain, Trace};
 ghost use Rattle.session_mux.specs.WorkedTraces.{one_session, two_sessions, kind_five, one_faulty};
 ghost use Rattle.ctrl_serve.specs.FrameAnswer.{no_bounds, alone, replies};
@@ -45,6 +45,12 @@ pub fn worked_words()
     ensures bare { form_of (codes "load" ∷ []) ≡ None }
     ensures padded { form_of (codes "load" ∷ codes "01" ∷ []) ≡ None }
     ensures twice { form_of (codes "load" ∷ codes "7" ∷ codes "7" ∷ []) ≡ None }
+    ensures ship { form_of (codes "ship" ∷ codes "7" ∷ []) ≡ Some (Ship 7) }
+    ensures ship_all { form_of (codes "ship" ∷ codes "18446744073709551615" ∷ []) ≡ Some (Ship 18_446_744_073_709_551_615) }
+    ensures ship_past_all { form_of (codes "ship" ∷ codes "18446744073709551616" ∷ []) ≡ None }
+    ensures ship_bare { form_of (codes "ship" ∷ []) ≡ None }
+    ensures ship_padded { form_of (codes "ship" ∷ codes "01" ∷ []) ≡ None }
+    ensures ship_twice { form_of (codes "ship" ∷ codes "7" ∷ codes "7" ∷ []) ≡ None }
     ensures advise { form_of (codes "advise" ∷ codes "ann" ∷ codes "web" ∷ []) ≡ Some Advise }
     ensures one_name { form_of (codes "advise" ∷ codes "ann" ∷ []) ≡ None }
     ensures three_names { form_of (codes "advise" ∷ codes "ann" ∷ codes "web" ∷ codes "api" ∷ []) ≡ None }
@@ -52,16 +58,20 @@ pub fn worked_words()
     ensures no_service { form_of (codes "advise" ∷ codes "ann" ∷ codes "#web" ∷ []) ≡ None }
 {}
 
-/// Words as numbers: decimal, below 2^32, without a sign and without a zero before another digit.
+/// Words as numbers: decimal, below 2^32 or below 2^64, without a sign and without a zero before another digit.
 pub fn worked_numbers()
-    ensures zero { number_of_word (codes "0") ≡ Some 0 }
-    ensures seven { number_of_word (codes "7") ≡ Some 7 }
-    ensures greatest { number_of_word (codes "4294967295") ≡ Some 4_294_967_295 }
-    ensures greater { number_of_word (codes "4294967296") ≡ None }
-    ensures padded { number_of_word (codes "01") ≡ None }
-    ensures signed { number_of_word (codes "+7") ≡ None }
-    ensures letter { number_of_word (codes "x") ≡ None }
-    ensures empty { number_of_word [] ≡ None }
+    ensures zero { number_below (2 ^ 32) (codes "0") ≡ Some 0 }
+    ensures seven { number_below (2 ^ 32) (codes "7") ≡ Some 7 }
+    ensures greatest { number_below (2 ^ 32) (codes "4294967295") ≡ Some 4_294_967_295 }
+    ensures greater { number_below (2 ^ 32) (codes "4294967296") ≡ None }
+    ensures greater_below_more { number_below (2 ^ 64) (codes "4294967296") ≡ Some 4_294_967_296 }
+    ensures greatest_of_all { number_below (2 ^ 64) (codes "18446744073709551615") ≡ Some 18_446_744_073_709_551_615 }
+    ensures past_all { number_below (2 ^ 64) (codes "18446744073709551616") ≡ None }
+    ensures padded { number_below (2 ^ 32) (codes "01") ≡ None }
+    ensures two_zeros { number_below (2 ^ 64) (codes "00") ≡ None }
+    ensures signed { number_below (2 ^ 32) (codes "+7") ≡ None }
+    ensures letter { number_below (2 ^ 32) (codes "x") ≡ None }
+    ensures empty { number_below (2 ^ 32) [] ≡ None }
 {}
 
 /// The counts lines of the start, and of the state behind an identity, a service and a policy by which the one may dial the other.

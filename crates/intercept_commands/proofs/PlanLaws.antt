@@ -28,8 +28,8 @@ use Rattle.model_laws.specs.declared.plans.Plan.{Plan}
 use Rattle.model_laws.specs.Plans.{shown, refused, changed}
 use Rattle.model_laws.proofs.HitLaws.{picked_is}
 use Rattle.model_laws.proofs.PlannedLaws.{plans_refused, plans_carried}
-use Rattle.intercept_commands.specs.declared.changes.InterceptChange.{InterceptChange}
-use Rattle.intercept_commands.specs.declared.changes.InterceptChange.TheVariants as change
+use Rattle.intercepts.specs.declared.changes.InterceptChange.{InterceptChange}
+use Rattle.intercepts.specs.declared.changes.InterceptChange.TheVariants as change
 use Rattle.intercept_commands.specs.declared.planning.Stores.{Stores}
 use Rattle.intercept_commands.specs.InterceptPlans.{PlansIntercepts, is_unknown}
 use Rattle.intercept_commands.specs.PlannedIntercepts.{Answers, Knows, over_stores}

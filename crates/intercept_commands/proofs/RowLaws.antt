@@ -18,9 +18,9 @@ use Rattle.row_codec.specs.StateRows.{HasRows, row_at, row_in}
 use Rattle.row_laws.proofs.Covers.{Covers-same}
 use Rattle.row_laws.proofs.TableRows.{row_at-table}
 use Rattle.row_laws.proofs.TouchedKeys.{Covers-intercepts}
-use Rattle.intercept_commands.specs.declared.changes.InterceptChange.{InterceptChange}
-use Rattle.intercept_commands.specs.declared.changes.InterceptChange.TheVariants as change
-use Rattle.intercept_commands.specs.InterceptChanges.{after_intercept_change}
+use Rattle.intercepts.specs.declared.changes.InterceptChange.{InterceptChange}
+use Rattle.intercepts.specs.declared.changes.InterceptChange.TheVariants as change
+use Rattle.intercepts.specs.InterceptChanges.{after_intercept_change}
 use Rattle.intercept_commands.specs.InterceptRows.{claim_change, service_of, claim_of}
 
 -- ---- the same intercept again

@@ -8,8 +8,13 @@ use Rattle.ctrl_model.specs.State.{State}
 use Rattle.entity_store.specs.EntityTables.{Tables}
 use Rattle.model_laws.specs.declared.plans.Plan.{Plan}
 use Rattle.model_laws.specs.Plans.{Plans}
-use Rattle.intercept_commands.specs.declared.changes.InterceptChange.{InterceptChange}
-use Rattle.intercept_commands.specs.InterceptChanges.{over, claimed_by, CanClaim}
+use Rattle.intercepts.specs.declared.changes.InterceptChange.{InterceptChange}
+use Rattle.intercepts.specs.InterceptChanges.{claimed_by, with_intercepts, CanClaim}
+
+-- A state with the entities of these tables and with these intercepts in place of its own. Commands on intercepts are judged by these
+-- and by the counts of Dial alone, so what is said of all such states is said of the one whose parts they are.
+abbrev pub over : Tables → List (ℕ × Intercept) → State → State
+over t xs s = with_intercepts xs (record s { identities = t.identities; services = t.services; routers = t.routers })
 
 -- The plan of an answer by a change of intercepts.
 abbrev pub PlansIntercepts : Plan InterceptChange → Reply × State → State → Type 0

@@ -7,8 +7,8 @@ use Rattle.row_codec.specs.declared.changes.Change.{Change}
 use Rattle.row_codec.specs.RowKeys.{key_bytes, key_in}
 use Rattle.row_codec.specs.RowKeys.RowTable.{Intercepts}
 use Rattle.row_codec.specs.RowValues.{intercept_value}
-use Rattle.intercept_commands.specs.declared.changes.InterceptChange.{InterceptChange}
-use Rattle.intercept_commands.specs.declared.changes.InterceptChange.TheVariants as change
+use Rattle.intercepts.specs.declared.changes.InterceptChange.{InterceptChange}
+use Rattle.intercepts.specs.declared.changes.InterceptChange.TheVariants as change
 
 -- The service whose intercept is changed.
 abbrev pub service_of : InterceptChange → ℕ

@@ -1,4 +1,3 @@
-pub mod InterceptChanges
 pub mod InterceptRows
 pub mod InterceptPlans
 pub mod PlannedIntercepts

@@ -5,10 +5,9 @@ use Rattle.ctrl_model.specs.Grants.{count}
 use Rattle.ctrl_model.specs.State.{State}
 use Rattle.grant_denorm.specs.MovedCounts.{AreCountsOf}
 use Rattle.model_laws.specs.declared.plans.Plan.{Plan}
-use Rattle.intercept_commands.specs.declared.changes.InterceptChange.{InterceptChange}
+use Rattle.intercepts.specs.declared.changes.InterceptChange.{InterceptChange}
 use Rattle.intercept_commands.specs.declared.planning.Stores.{Stores}
-use Rattle.intercept_commands.specs.InterceptChanges.{over}
-use Rattle.intercept_commands.specs.InterceptPlans.{PlansIntercepts, KnowsNames}
+use Rattle.intercept_commands.specs.InterceptPlans.{PlansIntercepts, KnowsNames, over}
 
 -- A state with the entities and the intercepts of some stores.
 abbrev pub over_stores : Stores → State → State

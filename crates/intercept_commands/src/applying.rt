@@ -1,8 +1,7 @@
 ghost use Rattle.std.specs.Prelude.{◌≡◌, OnOk, OnErr};
-ghost use Rattle.intercept_commands.specs.InterceptChanges.{after_intercept_change};
+ghost use Rattle.intercepts.specs.InterceptChanges.{after_intercept_change};
 
-use crate::changes::InterceptChange;
-use intercepts::Intercepts;
+use intercepts::{InterceptChange, Intercepts};
 use std::alloc::AllocError;
 
 /// Makes a change of the intercepts. For want of memory they stay.

@@ -2,7 +2,6 @@
 #![tactic(auto)]
 
 mod applying;
-mod changes;
 mod laws;
 mod planning;
 mod rows;
@@ -10,7 +9,7 @@ mod showing;
 mod worked;
 
 pub use applying::apply_intercept_change;
-pub use changes::InterceptChange;
+pub use intercepts::InterceptChange;
 pub use laws::the_same_intercept_again;
 pub use planning::plan_intercept_command;
 pub use rows::intercept_changes;

@@ -9,18 +9,16 @@ ghost use Rattle.ctrl_model.specs.declared.refusals.Refusal.TheVariants.{Unknown
 ghost use Rattle.model_laws.specs.Plans.{refused};
 ghost use Rattle.ctrl_model.specs.declared.kinds.Relation.TheVariants.{Dial};
 ghost use Rattle.grant_denorm.specs.MovedCounts.{AreCountsOf};
-ghost use Rattle.intercept_commands.specs.InterceptChanges.{over};
-ghost use Rattle.intercept_commands.specs.InterceptPlans.{KnowsNames, PlansIntercepts};
+ghost use Rattle.intercept_commands.specs.InterceptPlans.{KnowsNames, PlansIntercepts, over};
 ghost use Rattle.intercept_commands.specs.PlannedIntercepts.{Answers, Knows};
 
-use crate::changes::InterceptChange;
 use crate::showing::{dialled_by, names_of, picked_reply};
 use ctrl_model::{
     Address, Command, Copies, Field, Intercept, Kind, Name, Names, Refusal, Reply, ServiceNo,
 };
 use entity_store::Entities;
 use grant_denorm::Counted;
-use intercepts::Intercepts;
+use intercepts::{InterceptChange, Intercepts};
 use model_laws::Plan;
 use std::alloc::{AllocError, Global};
 

@@ -9,12 +9,11 @@ ghost use Rattle.row_codec.specs.CoveredTables.{Covers};
 ghost use Rattle.row_codec.specs.RowKeys.{is_long};
 ghost use Rattle.row_codec.specs.RowValues.{intercept_value};
 ghost use Rattle.row_codec.specs.StateRows.{HasRows};
-ghost use Rattle.intercept_commands.specs.InterceptChanges.{Claims, intercepts_after};
+ghost use Rattle.intercepts.specs.InterceptChanges.{Claims, intercepts_after};
 ghost use Rattle.intercept_commands.specs.InterceptRows.{claim_change, service_of, claim_of};
 
-use crate::changes::InterceptChange;
 use ctrl_model::{Bytes, Copies, Format, Intercept, ServiceNo};
-use intercepts::Intercepts;
+use intercepts::{InterceptChange, Intercepts};
 use row_codec::{Change, Changes, Row, record_key};
 use row_writing::value_of;
 use std::alloc::{AllocError, Global};

@@ -8,10 +8,12 @@ ghost use Rattle.ctrl_model.specs.declared.refusals.Refusal.TheVariants as refus
 ghost use Rattle.ctrl_model.specs.declared.replies.Reply.TheVariants as reply;
 ghost use Rattle.model_laws.specs.Plans.{led_by};
 ghost use Rattle.model_laws.specs.WorkedIntercepts.{ports, over_tcp, web_and_api, both_under, with_hosts};
-ghost use Rattle.intercept_commands.specs.InterceptChanges.{intercepts_after, claimed_by};
+ghost use Rattle.intercepts.specs.InterceptChanges.{intercepts_after, claimed_by};
+ghost use Rattle.row_codec.specs.Batches.{batch_of};
+ghost use Rattle.row_codec.specs.declared.changes.Op.TheVariants.{Delete};
 ghost use Rattle.intercept_commands.specs.InterceptPlans.{is_unknown};
 ghost use Rattle.intercept_commands.specs.InterceptRows.{claim_change};
-ghost use Rattle.intercept_commands.specs.declared.changes.InterceptChange.TheVariants as change;
+ghost use Rattle.intercepts.specs.declared.changes.InterceptChange.TheVariants as change;
 
 /// What changes make of the intercepts, where they lead a state, and which row they touch.
 pub fn changed_intercepts()
@@ -22,6 +24,9 @@ pub fn changed_intercepts()
     ensures leads { (led_by claimed_by (Some (change.Remove (record { 0 = 1 }))) with_hosts).intercepts ≡ (after (ClearIntercept (codes "web") ∷ []) with_hosts).intercepts }
     ensures key { (claim_change 258 None None).key ≡ 16 ∷ 0 ∷ 0 ∷ 1 ∷ 2 ∷ [] }
     ensures row { (claim_change 1 None (Some (over_tcp (Under (codes "a") ∷ []) (ports 443 443 ∷ [])))).after ≡ Some (1 ∷ 1 ∷ 3 ∷ 42 ∷ 46 ∷ 97 ∷ 1 ∷ 187 ∷ 1 ∷ 187 ∷ 1 ∷ []) }
+    ensures gone { batch_of (claim_change 1 (Some (over_tcp (Under (codes "a") ∷ []) (ports 443 443 ∷ []))) None ∷ []) ≡ Delete (16 ∷ 0 ∷ 0 ∷ 0 ∷ 1 ∷ []) ∷ [] }
+    ensures no_row { batch_of (claim_change 1 None None ∷ []) ≡ [] }
+    ensures same { batch_of (claim_change 1 (Some (over_tcp (Under (codes "a") ∷ []) (ports 443 443 ∷ []))) (Some (over_tcp (Under (codes "a") ∷ []) (ports 443 443 ∷ []))) ∷ []) ≡ [] }
     ensures unknown { is_unknown (reply.Refused (refusal.Unknown field.Service)) ≡ true }
     ensures known { is_unknown (reply.Refused refusal.NoIntercept) ≡ false }
 {}

@@ -1,1 +1,2 @@
 pub mod FirstHits
+pub mod InterceptChanges

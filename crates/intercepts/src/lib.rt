@@ -1,6 +1,8 @@
-//! The store of the intercepts of services: which service a destination belongs to, and which services clash.
+//! The store of the intercepts of services: which service a destination belongs to, and which services clash. What a change makes of
+//! them.
 #![tactic(auto)]
 
+mod changes;
 mod clashing;
 mod hits;
 mod laws;
@@ -8,6 +10,7 @@ mod nearness;
 mod store;
 mod worked;
 
+pub use changes::InterceptChange;
 pub use hits::Picked;
 pub use laws::{mutual_clashes, no_order_of_services};
 pub use store::Intercepts;

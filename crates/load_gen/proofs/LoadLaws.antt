@@ -83,7 +83,6 @@ drawn_behind k make g0 g1 g2 x c e h d = record {
   drawn = d.drawn ∙ ap₂ (λ y g. (make y g).0) e h;
   generator = d.generator ∙ ap₂ (λ y g. (make y g).1) e h;
   spelled = d.spelled;
-  others = d.others;
 }
 
 -- The command that was drawn was pushed.

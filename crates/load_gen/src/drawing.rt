@@ -1,6 +1,5 @@
-ghost use Rattle.std.specs.Prelude.{◌≡◌, ◌+◌, ◌<◌, ◌&&◌, ◌∷◌, [], nat_le, length, IfOk, OnOk, Ok, true, false};
+ghost use Rattle.std.specs.Prelude.{◌≡◌, ◌+◌, ◌<◌, ◌&&◌, ◌∷◌, [], nat_le, length, IfOk, OnOk, Ok, true};
 ghost use Rattle.ctrl_model.specs.CommandForm.{is_spelled};
-ghost use Rattle.ctrl_model.specs.InterceptCommands.{is_intercept_command};
 ghost use Rattle.ctrl_model.specs.NameForm.{is_name};
 ghost use Rattle.command_codec.specs.BodyMeaning.{meaning};
 ghost use Rattle.command_codec.specs.ContentTypes.{content_of};
@@ -46,8 +45,7 @@ pub(crate) fn drawn_name(
 }
 
 fn frame(alloc: Global, place: u32, command: &Command) -> Result<Frame, AllocError>
-    requires spelled { is_spelled command.now ≡ true }
-    requires others { is_intercept_command command.now ≡ false }
+    requires { is_spelled command.now ≡ true }
     ensures frame { IfOk result (λ f. f ≡ frame_at place command.now) }
     ensures meant { OnOk result (meaning (content_of command.now) (body_text command.now) ≡ Ok command.now) }
 {
@@ -61,8 +59,7 @@ fn frame(alloc: Global, place: u32, command: &Command) -> Result<Frame, AllocErr
 }
 
 fn push_frame(alloc: Global, frames: &mut Vec<Frame>, command: &Command) -> Result<(), AllocError>
-    requires spelled { is_spelled command.now ≡ true }
-    requires others { is_intercept_command command.now ≡ false }
+    requires { is_spelled command.now ≡ true }
     ensures { OnOk result (Pushes frames.old.items frames.new.items (command.now ∷ [])) }
 {
     let Ok(place) = u32::try_from(frames.len()) else {
@@ -79,8 +76,7 @@ pub(crate) fn push(
     frames: &mut Vec<Frame>,
     command: Command,
 ) -> Result<(), AllocError>
-    requires spelled { is_spelled command ≡ true }
-    requires others { is_intercept_command command ≡ false }
+    requires { is_spelled command ≡ true }
     ensures { OnOk result (Pushes frames.old.items frames.new.items (command ∷ [])) }
 {
     let pushed = push_frame(alloc, frames, &command);

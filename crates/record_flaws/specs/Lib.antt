@@ -3,4 +3,3 @@ pub mod StoresOfStates
 pub mod LastClaims
 pub mod FoundFlaws
 pub mod WorkedFlaws
-pub mod SaidRecords

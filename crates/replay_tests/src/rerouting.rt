@@ -14,41 +14,43 @@ use std::test::Fail;
 use ziti_desk::MemDesk;
 use ziti_outside::Part;
 
-/// The record of the router r2 through which no path may pass, alone.
-const CLOSED_ALONE: &[u8] = b"\x01\x12\0\0\0\x01\x05\x05\0\0\0\x02\x07\0\0\0\x02r2\0\0\0\x03";
+/// The record of the router r2 through which no path may pass, alone, with the serial 17 behind the 16 changes of the network.
+const CLOSED_ALONE: &[u8] =
+    b"\x01\x21\0\0\0\x01\x05\x05\0\0\0\x02\x07\0\0\0\x02r2\0\0\0\x03\x01\x01\x11\x08\0\0\0\x11\0\0\0\0\0\0\0";
 
 /// That of the policy by which ann may dial web, which goes, and of its count. The circuit stays, as in a folder of a program that did not
 /// end the circuits which nothing grants any more.
-const GRANT_GONE: &[u8] = b"\x01\x12\0\0\0\x02\x05\x07\0\0\0\x01\x02\x09\x0c\0\0\0\x01\0\0\0\x01";
+const GRANT_GONE: &[u8] =
+    b"\x01\x21\0\0\0\x02\x05\x07\0\0\0\x01\x02\x09\x0c\0\0\0\x01\0\0\0\x01\x01\x01\x11\x08\0\0\0\x11\0\0\0\0\0\0\0";
 
-/// A run on the folder of the one before, and the record that it puts behind that one's.
+/// A run on the folder of the one before, and the record that it puts behind that one's, with the next serial.
 type Step = (&'static str, &'static [u8]);
 
 const STEPS: [Step; 5] = [
     // The router r2, and the circuit that then goes over the link 3: the identity, the service, the terminator and the ingress are each the first.
     (
         "ON_LINE CLOSED ON_DEAR_LINK",
-        b"\x01\x32\0\0\0\x01\x05\x05\0\0\0\x02\x07\0\0\0\x02r2\0\0\0\x03\x01\x05\x0b\0\0\0\x01\x15\0\0\0\x01\0\0\0\x01\0\0\0\x01\0\0\0\x01\0\0\0\x01\x03\0\0\0",
+        b"\x01\x41\0\0\0\x01\x05\x05\0\0\0\x02\x07\0\0\0\x02r2\0\0\0\x03\x01\x05\x0b\0\0\0\x01\x15\0\0\0\x01\0\0\0\x01\0\0\0\x01\0\0\0\x01\0\0\0\x01\x03\0\0\0\x01\x01\x11\x08\0\0\0\x11\0\0\0\0\0\0\0",
     ),
     // The router through which paths may pass again: the circuit stays, so its row is not put.
     (
         "ON_DEAR_LINK OPENED ON_DEAR_LINK",
-        b"\x01\x12\0\0\0\x01\x05\x05\0\0\0\x02\x07\0\0\0\x02r2\0\0\0\x02",
+        b"\x01\x21\0\0\0\x01\x05\x05\0\0\0\x02\x07\0\0\0\x02r2\0\0\0\x02\x01\x01\x11\x08\0\0\0\x12\0\0\0\0\0\0\0",
     ),
     // The link 3, which goes, and the circuit, which goes back over the links 1 and 2.
     (
         "ON_DEAR_LINK\n1204 {\"link\":\"l3\"} -> {}\nON_LINE",
-        b"\x01\x2b\0\0\0\x02\x05\x06\0\0\0\x03\x01\x05\x0b\0\0\0\x01\x19\0\0\0\x01\0\0\0\x01\0\0\0\x01\0\0\0\x01\0\0\0\x02\x01\0\0\0\x02\0\0\0",
+        b"\x01\x3a\0\0\0\x02\x05\x06\0\0\0\x03\x01\x05\x0b\0\0\0\x01\x19\0\0\0\x01\0\0\0\x01\0\0\0\x01\0\0\0\x01\0\0\0\x02\x01\0\0\0\x02\0\0\0\x01\x01\x11\x08\0\0\0\x13\0\0\0\0\0\0\0",
     ),
     // The router r1, which is off, and the circuit, which goes.
     (
         "ON_LINE\n1024 {\"name\":\"r1\"} -> {}\nGONE",
-        b"\x01\x19\0\0\0\x01\x05\x05\0\0\0\x01\x07\0\0\0\x02r1\0\0\0\0\x02\x05\x0b\0\0\0\x01",
+        b"\x01\x28\0\0\0\x01\x05\x05\0\0\0\x01\x07\0\0\0\x02r1\0\0\0\0\x02\x05\x0b\0\0\0\x01\x01\x01\x11\x08\0\0\0\x14\0\0\0\0\0\0\0",
     ),
     // The router r1, which is connected again.
     (
         "GONE\n1023 {\"name\":\"r1\"} -> {}\nGONE",
-        b"\x01\x12\0\0\0\x01\x05\x05\0\0\0\x01\x07\0\0\0\x02r1\0\0\0\x02",
+        b"\x01\x21\0\0\0\x01\x05\x05\0\0\0\x01\x07\0\0\0\x02r1\0\0\0\x02\x01\x01\x11\x08\0\0\0\x15\0\0\0\0\0\0\0",
     ),
 ];
 

@@ -1,8 +1,9 @@
-//! What tests of whole runs share: frames of requests and replies, laid out by hand, rows of them as text, parts by name, a small network and a
-//! realistic one, slots of records and folders of them, sources and desks over memory, and files of the system that record what is asked of them.
+//! What tests of whole runs share: frames of requests and replies, laid out by hand, rows of them as text, parts by name, two examples, a small network
+//! and a realistic one, slots of records and folders of them, sources and desks over memory, and files of the system that record what is asked of them.
 #![tactic(auto)]
 
 mod desks;
+mod examples;
 mod frames;
 mod how;
 mod models;

@@ -1,5 +1,7 @@
 //! A small network by names, as texts of rows: a content type, the body of the frame, and behind ` -> ` the body of its reply.
 
+use crate::examples::{CLAIMS, SMALL_NETWORK};
+
 /// An identity ann and a service web.
 const PAIR: &str = r##"
 1000 {"name":"ann"} -> {"no":1}
@@ -52,7 +54,9 @@ const SQUARE: &str = r##"
 "##;
 
 /// The texts by their names, which stand for them in other texts.
-pub(crate) const TEXTS: [(&str, &str); 15] = [
+pub(crate) const TEXTS: [(&str, &str); 17] = [
+    ("SMALL_NETWORK", SMALL_NETWORK),
+    ("CLAIMS", CLAIMS),
     ("PAIR", PAIR),
     ("ENTRY", ENTRY),
     ("LINE", LINE),

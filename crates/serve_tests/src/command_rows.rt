@@ -1,4 +1,4 @@
-//! Rows of commands on policies, links and terminators, and of what is then shown, and how many identities there may be.
+//! Rows of commands on policies, links, terminators and intercepts, and of what is then shown, and how many identities there may be.
 
 use crate::checks::{check_runs, check_talk};
 use sample_runs::Talk;
@@ -94,6 +94,19 @@ const BODIES: &str = r##"
 1020 {"name":"r1","cost":null} -> {"code":11,"field":"cost","name":"BadBody","reason":"WrongKind"}
 1020 {"name":"r1","no_traversal":0} -> {"code":11,"field":"no_traversal","name":"BadBody","reason":"WrongKind"}
 1100 {"name":"p","type":"Bind","semantic":"AllOf","identity_roles":["#a1","#a2","#a3","#a4","#a5","#a6","#a7","#a8","#a9","#a10","#a11","#a12","#a13","#a14","#a15","#a16","#a17","#a18","#a19","#a20","#a21","#a22","#a23","#a24","#a25","#a26","#a27","#a28","#a29","#a30","#a31","#a32","#a33","#a34","#a35","#a36","#a37","#a38","#a39","#a40","#a41","#a42","#a43","#a44","#a45","#a46","#a47","#a48","#a49","#a50","#a51","#a52","#a53","#a54","#a55","#a56","#a57","#a58","#a59","#a60","#a61","#a62","#a63","#a64"],"service_roles":["@web"]} -> {"code":23,"field":"service_roles","name":"UnknownRef","ref":"web"}
+# Bodies of commands on intercepts, each with its first cause in the order of the fields.
+1600 {"service":"web","protocols":[],"addresses":["1.2.3"],"ports":[[0,1]]} -> {"code":11,"field":"protocols","name":"BadBody","reason":"WrongKind"}
+1600 {"service":"web","protocols":["tcp"],"addresses":["1.2.3"],"ports":[[0,1]]} -> {"code":11,"field":"addresses","name":"BadBody","reason":"WrongKind"}
+1600 {"service":"web","protocols":["tcp"],"addresses":[],"ports":[[0,1]]} -> {"code":11,"field":"addresses","name":"BadBody","reason":"WrongKind"}
+1600 {"service":"web","protocols":["tcp"],"addresses":["a","a","a","a","a","a","a","a","a","a","a","a","a","a","a","a","a","a","a","a","a","a","a","a","a","a","a","a","a","a","a","a","a"],"ports":[[0,1]]} -> {"code":11,"field":"addresses","name":"BadBody","reason":"WrongKind"}
+1600 {"service":"web","protocols":["tcp"],"addresses":["a"],"ports":[[0,1]]} -> {"code":11,"field":"ports","name":"BadBody","reason":"WrongKind"}
+1600 {"service":"web","protocols":["tcp"],"addresses":["a"],"ports":[[2,1]]} -> {"code":11,"field":"ports","name":"BadBody","reason":"WrongKind"}
+1600 {"service":"web","protocols":["tcp"],"addresses":["a"],"ports":[[1]]} -> {"code":11,"field":"ports","name":"BadBody","reason":"WrongKind"}
+1600 {"service":"web","protocols":["tcp"],"addresses":["a"],"ports":[[1,65536]]} -> {"code":11,"field":"ports","name":"BadBody","reason":"WrongKind"}
+1601 {"service":"web","ports":[[1,1]]} -> {"code":11,"field":"","name":"BadBody","reason":"Unknown"}
+1610 {"identity":"ann","protocol":"tcp","address":"10.0.0.0/8","port":0} -> {"code":11,"field":"address","name":"BadBody","reason":"WrongKind"}
+1610 {"identity":"ann","protocol":"tcp","address":"a","port":0} -> {"code":11,"field":"port","name":"BadBody","reason":"WrongKind"}
+1611 {"identity":"ann"} -> {"code":11,"field":"service","name":"BadBody","reason":"Missing"}
 "##;
 
 const NETWORK: &str = r##"
@@ -125,6 +138,50 @@ const NETWORK: &str = r##"
 1302 {"no":2} -> {"code":21,"field":"no","name":"Unknown"}
 "##;
 
+const INTERCEPTS: &str = r##"
+# Who and what is absent; then two services of which the nearest address counts, whatever the ports, and udp is another protocol. They clash once they claim the same, and a service's intercept goes with it.
+PAIR
+1010 {"name":"api"} -> {"no":2}
+1100 {"name":"d","type":"Dial","semantic":"AnyOf","identity_roles":["@ann"],"service_roles":["#all"]} -> {"no":1}
+1600 {"service":"tea","protocols":["tcp"],"addresses":["a"],"ports":[[1,1]]} -> {"code":21,"field":"service","name":"Unknown"}
+1601 {"service":"tea"} -> {"code":21,"field":"service","name":"Unknown"}
+1610 {"identity":"eve","protocol":"tcp","address":"a","port":1} -> {"code":21,"field":"identity","name":"Unknown"}
+1611 {"identity":"eve","service":"tea"} -> {"code":21,"field":"identity","name":"Unknown"}
+1611 {"identity":"ann","service":"tea"} -> {"code":21,"field":"service","name":"Unknown"}
+1600 {"service":"web","protocols":["tcp"],"addresses":["*.example.org"],"ports":[[443,443]]} -> {}
+1600 {"service":"api","protocols":["tcp"],"addresses":["api.example.org"],"ports":[[1,65535]]} -> {}
+1610 {"identity":"ann","protocol":"tcp","address":"API.example.org","port":443} -> {"address":"api.example.org","high":65535,"low":1,"service":"api"}
+1610 {"identity":"ann","protocol":"tcp","address":"www.example.org","port":443} -> {"address":"*.example.org","high":443,"low":443,"service":"web"}
+1610 {"identity":"ann","protocol":"tcp","address":"example.org","port":443} -> {"code":50,"name":"NoIntercept"}
+1610 {"identity":"ann","protocol":"udp","address":"API.example.org","port":443} -> {"code":50,"name":"NoIntercept"}
+1611 {"identity":"ann","service":"web"} -> {"clashes":[]}
+1600 {"service":"api","protocols":["tcp"],"addresses":["*.example.org"],"ports":[[443,443]]} -> {}
+1611 {"identity":"ann","service":"web"} -> {"clashes":["api"]}
+1012 {"name":"api"} -> {}
+1010 {"name":"api"} -> {"no":3}
+1611 {"identity":"ann","service":"web"} -> {"clashes":[]}
+1601 {"service":"api"} -> {}
+
+# Of addresses as near the narrowest range with the port counts, of ranges as narrow the lowest, and of two hits that are alike in these the one of the lower service. What is read as the same counts once, as `10.1.2.9/16` and `10.1.0.0/16`.
+PAIR
+1010 {"name":"api"} -> {"no":2}
+1100 {"name":"d","type":"Dial","semantic":"AnyOf","identity_roles":["@ann"],"service_roles":["#all"]} -> {"no":1}
+1600 {"service":"web","protocols":["tcp"],"addresses":["*.b.org","*.org"],"ports":[[1,100],[50,60],[40,50]]} -> {}
+1600 {"service":"api","protocols":["tcp"],"addresses":["*.b.org"],"ports":[[50,60]]} -> {}
+1610 {"identity":"ann","protocol":"tcp","address":"a.b.org","port":55} -> {"address":"*.b.org","high":60,"low":50,"service":"web"}
+1610 {"identity":"ann","protocol":"tcp","address":"a.b.org","port":50} -> {"address":"*.b.org","high":50,"low":40,"service":"web"}
+1610 {"identity":"ann","protocol":"tcp","address":"a.b.org","port":70} -> {"address":"*.b.org","high":100,"low":1,"service":"web"}
+1610 {"identity":"ann","protocol":"tcp","address":"a.b.org","port":101} -> {"code":50,"name":"NoIntercept"}
+1610 {"identity":"ann","protocol":"tcp","address":"b.org","port":55} -> {"address":"*.org","high":60,"low":50,"service":"web"}
+1611 {"identity":"ann","service":"api"} -> {"clashes":["web"]}
+1600 {"service":"web","protocols":["udp","tcp"],"addresses":["0.0.0.0/0","10.1.2.9/16","10.0.0.0/8","10.1.0.0/16"],"ports":[[22,22]]} -> {}
+1610 {"identity":"ann","protocol":"udp","address":"10.1.2.3","port":22} -> {"address":"10.1.0.0/16","high":22,"low":22,"service":"web"}
+1610 {"identity":"ann","protocol":"tcp","address":"10.2.0.1/32","port":22} -> {"address":"10.0.0.0/8","high":22,"low":22,"service":"web"}
+1610 {"identity":"ann","protocol":"tcp","address":"9.9.9.9","port":22} -> {"address":"0.0.0.0/0","high":22,"low":22,"service":"web"}
+1012 {"name":"web"} -> {}
+1610 {"identity":"ann","protocol":"tcp","address":"9.9.9.9","port":22} -> {"code":50,"name":"NoIntercept"}
+"##;
+
 /// How many identities there may be.
 const MOST_IDENTITIES: u32 = 2_048;
 
@@ -142,7 +199,7 @@ fn crowd(alloc: Global) -> Result<Talk, AllocError> {
 
 #[test]
 fn answers_commands(rt: HostRuntime) -> Result<(), Fail> {
-    for runs in [POLICIES, BODIES, NETWORK] {
+    for runs in [POLICIES, BODIES, NETWORK, INTERCEPTS] {
         check_runs(&rt, rt.alloc(), runs)?;
     }
     Ok(())

@@ -39,6 +39,16 @@ const TRACES: &str = r#"
 1 replies 0 {"code":12,"name":"NotPermitted"}
 0 replies 1 {"code":20,"name":"Exists"}
 1 replies 1 {"code":12,"name":"NotPermitted"}
+
+# Ann asks for herself alone, and sets nothing.
+1 whole 1601 {"service":"web"}
+1 whole 1610 {"identity":"bob","protocol":"tcp","address":"example.org","port":443}
+1 whole 1610 {"identity":"ann","protocol":"tcp","address":"example.org","port":443}
+1 whole 1611 {"identity":"ann","service":"web"}
+1 replies 0 {"code":12,"name":"NotPermitted"}
+1 replies 1 {"code":12,"name":"NotPermitted"}
+1 replies 2 {"code":50,"name":"NoIntercept"}
+1 replies 3 {"clashes":[]}
 "#;
 
 /// Session 0 is opened by an administrator, and session 1 by the identity ann.

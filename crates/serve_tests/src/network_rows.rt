@@ -1,33 +1,9 @@
-//! The small network of the README, `examples/network.lines`, command by command.
+//! The examples that stand in `examples/` as lines: the small network of the README, and two claims of one network.
 
 use crate::checks::check_runs;
 use std::test::Fail;
 
-const SMALL_NETWORK: &str = r##"
-# Ann may dial the service web, which is offered behind the router r2, and enters by r1. Her circuit is opened, shown and explained, a name is taken, a body is no JSON, and the link goes down, with which the circuit ends.
-1000 {"attributes":["staff"],"name":"ann"} -> {"no":1}
-1010 {"attributes":["apps"],"name":"web"} -> {"no":1}
-1020 {"name":"r1"} -> {"no":1}
-1020 {"name":"r2"} -> {"no":2}
-1023 {"name":"r1"} -> {}
-1023 {"name":"r2"} -> {}
-1200 {"a":"r1","b":"r2","cost":11,"name":"l1"} -> {"no":1}
-1100 {"identity_roles":["#staff"],"name":"dial","semantic":"AnyOf","service_roles":["#apps"],"type":"Dial"} -> {"no":1}
-1110 {"identity_roles":["#all"],"name":"edges","router_roles":["@r1"],"semantic":"AnyOf"} -> {"no":1}
-1120 {"name":"services","router_roles":["#all"],"semantic":"AnyOf","service_roles":["#all"]} -> {"no":1}
-1300 {"router":"r2","service":"web"} -> {"no":1}
-1400 {"identity":"ann","service":"web"} -> {"circuit":1,"ingress":"r1","links":[1],"terminator":1,"total":21}
-1500 {"identity":"ann"} -> {"bind":[],"dial":[["web",1]],"routers":[["r1",1]]}
-1502 {} -> {"circuits":1,"grants":4,"identities":1,"links":1,"policies":3,"routers":2,"services":1,"terminators":1}
-1000 {"name":"ann"} -> {"code":20,"name":"Exists"}
-1020 r3 -> {"code":11,"field":"","name":"BadBody","reason":"NotObject"}
-1402 {"identity":"ann","service":"web"} -> {"ingress":"r1","links":[1],"potentials":[{"router":2,"values":[21,0]}],"routers":[1,2],"terminator":1,"total":22}
-1203 {"link":"l1","router":"r1","up":false} -> {}
-1400 {"identity":"ann","service":"web"} -> {"code":38,"name":"NoPath"}
-1502 {} -> {"circuits":0,"grants":4,"identities":1,"links":1,"policies":3,"routers":2,"services":1,"terminators":1}
-"##;
-
 #[test]
-fn answers_the_small_network(rt: HostRuntime) -> Result<(), Fail> {
-    check_runs(&rt, rt.alloc(), SMALL_NETWORK)
+fn answers_the_examples(rt: HostRuntime) -> Result<(), Fail> {
+    check_runs(&rt, rt.alloc(), "SMALL_NETWORK\n\nCLAIMS")
 }

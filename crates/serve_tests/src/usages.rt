@@ -54,7 +54,7 @@ const NO_LINES: [&[&str]; 20] = [
 ];
 
 const USAGE: &[u8] =
-    b"zitictl: usage: zitictl dry | replay [--sessions] | audit | compact | load N | advise I S\n";
+    b"zitictl: usage: zitictl dry | replay [--sessions] | audit | compact | load N | advise I S | ship N\n";
 
 // Runs words at an input that they do not read, which ends so and leaves the folder empty.
 fn ends(

@@ -1,10 +1,10 @@
-use Rattle.std.proofs.Common.{◌≡◌, sym, ap, ◌∙◌, rules}
+use Rattle.std.proofs.Common.{◌≤◌, length, map, sym, ap, ◌∙◌, arith}
+use Rattle.std.proofs.lemmas.List.{take_all}
 use Rattle.std.proofs.lemmas.Simd.{map-map}
 use Rattle.ctrl_model.specs.AddressForm.{address_text}
 use Rattle.serde_json.specs.Data.{array, string}
 use Rattle.serde_json.specs.View.{items_of, view}
-use Rattle.serde_json.specs.declared.value.Value.TheVariants as value
-use Rattle.command_bodies.specs.WrittenFields.{list_of}
+use Rattle.serde_json.proofs.Views.{view-Array}
 use Rattle.command_bodies.proofs.ListedValues.{pushed}
 use Rattle.command_bodies.proofs.listing.addresses_value.Goals as goal
 
@@ -15,5 +15,7 @@ addresses-preserved c =
 
 pub returns : goal.returns
 returns c =
-    let done : view (value.Array c.addresses.values) ≡ list_of (λ a. string (address_text a)) c.args.addresses.now = search rules in
-    done ∙ sym (ap (λ ds. array (items_of ds)) (map-map (λ t. string t) address_text c.args.addresses.now))
+    let all = c.args.addresses.now in
+    let ended : length all ≤ c.addresses.address-index = omega (arith, ap length c.as_slice-address-items.ensures) in
+    let texts = c.addresses.invariant ∙ ap (map (λ a. string (address_text a))) (take_all c.addresses.address-index all ended) ∙ sym (map-map (λ t. string t) address_text all) in
+    view-Array c.addresses.values ∙ ap (λ ds. array (items_of ds)) texts

@@ -1,4 +1,4 @@
-use Rattle.std.proofs.Common.{refl, sym, subst}
+use Rattle.std.proofs.Common.{refl}
 use Rattle.std.proofs.lemmas.Result.{IfOk-weaker}
 use Rattle.ctrl_model.specs.declared.kinds.Relation.TheVariants.{Dial, Bind, IdentityRouter, ServiceRouter}
 use Rattle.ctrl_model.specs.Controller.{carry}
@@ -9,10 +9,8 @@ use Rattle.terminator_commands.specs.TermChanges.{CanOffer, offered}
 use Rattle.circuit_rules.specs.CircuitPlans.{CanGrant, routed}
 use Rattle.core_stores.specs.declared.changes.Change.TheVariants as change
 use Rattle.core_stores.specs.StoredState.{state_of}
-use Rattle.ctrl_core.specs.PlannedCommands.{Plans}
 use Rattle.ctrl_core.proofs.FoundPlans.{found_plan, no_plan}
 use Rattle.ctrl_core.proofs.NetworkPlans.{planned_so}
-use Rattle.ctrl_core.proofs.PlanLaws.{plans_reply, alone_is}
 use Rattle.ctrl_core.proofs.commands.plan_command.Goals as goal
 
 pub drafted-requires-in-Some-2-clause-can : goal.drafted-requires-in-Some-2-clause-can
@@ -83,10 +81,13 @@ returns-in-Some c =
     (planned_so routed CanGrant change.Circuit (state_of c.args.stores.now) (λ x. refl) (λ x can. can) c.in-Some.plan c.circuit_change.result (carry c.args.command.now (state_of c.args.stores.now)) c.circuit_change.ensures
     (found_plan _ _ c.in_ok-plan.field-0 c.in-Some.plan c.in-Some.is c.in_ok-plan.ensures (state_of c.args.stores.now) c.requires.kept.valid (record { dial = c.requires.kept.counts Dial; bind = c.requires.kept.counts Bind; identity_router = c.requires.kept.counts IdentityRouter; service_router = c.requires.kept.counts ServiceRouter; load = c.requires.kept.loads })))) c.drafted.ensures
 
-pub returns : goal.returns
-returns c =
-    let s = state_of c.args.stores.now in
-    subst (λ answered. Plans c.shown-2.result answered s)
-    (sym (alone_is c.args.command.now s c.reply_alone.result c.reply_alone.ensures c.requires.other
-    (no_plan _ _ c.in_ok-plan-2.field-0 c.in_default-2.is c.in_ok-plan-2.ensures.plan) (no_plan _ _ c.in_ok-plan-3.field-0 c.in_default-3.is c.in_ok-plan-3.ensures.plan) (no_plan _ _ c.in_ok-plan-4.field-0 c.in_default-4.is c.in_ok-plan-4.ensures.plan) (no_plan _ _ c.in_ok-plan-5.field-0 c.in_default-5.is c.in_ok-plan-5.ensures.plan) (no_plan _ _ c.in_ok-plan.field-0 c.in_default.is c.in_ok-plan.ensures) (no_plan _ _ c.in_ok-reply.field-0 c.in_default-6.is c.in_ok-reply.ensures)))
-    (plans_reply c.shown-2.result c.reply_alone.result s c.shown-2.ensures)
+pub plan_other_command-requires : goal.plan_other_command-requires
+plan_other_command-requires c = record {
+  kept = c.requires.kept;
+  spelled = c.requires.spelled;
+  entity = no_plan _ _ c.in_ok-plan-2.field-0 c.in_default-2.is c.in_ok-plan-2.ensures.plan;
+  policy = no_plan _ _ c.in_ok-plan-3.field-0 c.in_default-3.is c.in_ok-plan-3.ensures.plan;
+  link = no_plan _ _ c.in_ok-plan-4.field-0 c.in_default-4.is c.in_ok-plan-4.ensures.plan;
+  terminator = no_plan _ _ c.in_ok-plan-5.field-0 c.in_default-5.is c.in_ok-plan-5.ensures.plan;
+  circuit = no_plan _ _ c.in_ok-plan.field-0 c.in_default.is c.in_ok-plan.ensures;
+}

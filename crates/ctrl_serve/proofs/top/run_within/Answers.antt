@@ -5,7 +5,7 @@ use Rattle.ctrl_serve.specs.declared.command_line.Form.{Form}
 use Rattle.ctrl_serve.specs.CommandLine.{form_of, texts}
 use Rattle.run_notes.specs.NotedLines.{NotesLines}
 use Rattle.ctrl_serve.proofs.AdviseWords.{advise_words}
-use Rattle.ctrl_serve.proofs.RunLaws.{advise_runs, audit_runs, compact_runs, dry_runs, load_runs, replay_runs, usage_runs}
+use Rattle.ctrl_serve.proofs.RunLaws.{advise_runs, audit_runs, compact_runs, dry_runs, load_runs, replay_runs, ship_runs, usage_runs}
 use Rattle.ctrl_serve.proofs.top.run_within.Goals as goal
 
 pub returns-in-Some-Dry : goal.returns-in-Some-Dry
@@ -49,6 +49,12 @@ returns-in-Some-Advise g c =
       runs = advise_runs (record { left = g.S.Source.left; faults = g.S.Source.faults; tells = g.D.Desk.tells; seen = g.D.Desk.seen; stopped = g.D.Desk.stopped }) c.args.bounds _ _ _ _ _ _ form (advise_words _ form)
           (λ i s are. e.advises i s (ap texts c.as_slice-in-Some-Advise.ensures.value ∙ are)) e.alone e.write_cause e.disk_cause e.counted;
     }
+
+pub returns-in-Some-Ship : goal.returns-in-Some-Ship
+returns-in-Some-Ship g c =
+    let e = c.run_ship.ensures in
+    let form = ap (λ ws. form_of (texts ws)) (sym c.as_slice.ensures.value) ∙ sym c.form_of.ensures ∙ c.in-Some-Ship.is ∙ ap (λ (f : Form). Some f) c.in-Some-Ship.field-0-is in
+    record { runs = ship_runs (record { left = g.S.Source.left; faults = g.S.Source.faults; tells = g.D.Desk.tells; seen = g.D.Desk.seen; stopped = g.D.Desk.stopped }) c.args.bounds _ _ c.in-Some-Ship.from _ _ _ _ form e.ships e.alone e.write_cause e.disk_cause e.counted }
 
 pub returns-in-Some-Compact : goal.returns-in-Some-Compact
 returns-in-Some-Compact g c =

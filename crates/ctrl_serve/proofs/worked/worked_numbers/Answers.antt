@@ -33,3 +33,15 @@ returns-clause-letter c = refl
 pub returns-clause-empty : goal.returns-clause-empty
 unfolding digits
 returns-clause-empty c = refl
+
+pub returns-clause-greater_below_more : goal.returns-clause-greater_below_more
+unfolding digits
+returns-clause-greater_below_more c = refl
+
+pub returns-clause-greatest_of_all : goal.returns-clause-greatest_of_all
+unfolding digits
+returns-clause-greatest_of_all c = refl
+
+pub returns-clause-two_zeros : goal.returns-clause-two_zeros
+unfolding digits
+returns-clause-two_zeros c = refl

@@ -9,3 +9,15 @@ returns-clause-load c = refl
 pub returns-clause-padded : goal.returns-clause-padded
 unfolding digits
 returns-clause-padded c = refl
+
+pub returns-clause-ship : goal.returns-clause-ship
+unfolding digits
+returns-clause-ship c = refl
+
+pub returns-clause-ship_all : goal.returns-clause-ship_all
+unfolding digits
+returns-clause-ship_all c = refl
+
+pub returns-clause-ship_padded : goal.returns-clause-ship_padded
+unfolding digits
+returns-clause-ship_padded c = refl

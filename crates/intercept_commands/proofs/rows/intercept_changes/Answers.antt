@@ -1,7 +1,7 @@
 use Rattle.std.proofs.Common.{◌≡◌, [], ◌∷◌, sym, ap, ◌∙◌, subst, rules}
 use Rattle.std.specs.Option.{option_map}
 use Rattle.row_codec.specs.CoveredTables.{Covers}
-use Rattle.intercept_commands.specs.InterceptChanges.{intercepts_after}
+use Rattle.intercepts.specs.InterceptChanges.{intercepts_after}
 use Rattle.intercept_commands.proofs.RowLaws.{covers_change, covers_none}
 use Rattle.intercept_commands.proofs.rows.intercept_changes.Goals as goal
 

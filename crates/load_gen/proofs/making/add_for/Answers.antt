@@ -3,11 +3,8 @@ use Rattle.load_gen.specs.LoadCommands.{made_for}
 use Rattle.load_gen.proofs.LoadLaws.{adds_drawn, adds_routers}
 use Rattle.load_gen.proofs.making.add_for.Goals as goal
 
-pub push-requires-clause-spelled : goal.push-requires-clause-spelled
-push-requires-clause-spelled c = let drawn = rw c.in-Some.is at c.in_ok-command.ensures in drawn.spelled
-
-pub push-requires-clause-others : goal.push-requires-clause-others
-push-requires-clause-others c = let drawn = rw c.in-Some.is at c.in_ok-command.ensures in drawn.others
+pub push-requires : goal.push-requires
+push-requires c = let drawn = rw c.in-Some.is at c.in_ok-command.ensures in drawn.spelled
 
 pub returns-in-Some : goal.returns-in-Some
 returns-in-Some c =

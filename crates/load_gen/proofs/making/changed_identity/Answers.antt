@@ -8,5 +8,4 @@ returns c = record {
   drawn = rw (c.in_ok-name.ensures.value, c.in_ok-attributes.ensures, c.draw-h.ensures.value, c.draw-g.ensures.value, c.draw-g.ensures.left, c.drawn_name.ensures.left) refl;
   generator = rw (c.draw-h.ensures.left, c.draw-g.ensures.left, c.drawn_name.ensures.left) refl;
   spelled = both_hold _ _ c.in_ok-name.ensures.form (ap are_attributes c.in_ok-attributes.ensures ∙ two_form c.draw-g.result c.draw-h.result (omega arith) (omega arith));
-  others = refl;
 }

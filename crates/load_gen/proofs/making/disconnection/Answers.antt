@@ -6,5 +6,4 @@ returns c = record {
   drawn = rw c.in_ok-name.ensures.value refl;
   generator = rw c.drawn_name.ensures.left refl;
   spelled = c.in_ok-name.ensures.form;
-  others = refl;
 }

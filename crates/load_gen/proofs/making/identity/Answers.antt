@@ -9,5 +9,4 @@ returns c = record {
   drawn = rw (c.in_ok-name.ensures, c.in_ok-attributes.ensures, c.draw-h.ensures.value, c.draw-g.ensures.value, c.draw-g.ensures.left) refl;
   generator = rw (c.draw-h.ensures.left, c.draw-g.ensures.left) refl;
   spelled = ap₂ (λ n names. is_name n && are_attributes names) c.in_ok-name.ensures c.in_ok-attributes.ensures ∙ both_hold _ _ (name_form (codes "u") (c.args.i) refl (omega arith)) (two_form c.draw-g.result c.draw-h.result (omega arith) (omega arith));
-  others = refl;
 }

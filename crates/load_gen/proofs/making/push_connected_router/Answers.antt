@@ -4,8 +4,8 @@ use Rattle.ctrl_model.specs.NameForm.{is_name}
 use Rattle.load_gen.proofs.SpelledLoads.{name_form}
 use Rattle.load_gen.proofs.making.push_connected_router.Goals as goal
 
-pub push-requires-clause-spelled : goal.push-requires-clause-spelled
-push-requires-clause-spelled c =
+pub push-requires : goal.push-requires
+push-requires c =
     ap is_name c.in_ok-name.ensures ∙ (name_form (codes "r") (c.args.i) refl (omega arith))
 
 pub returns : goal.returns

@@ -10,5 +10,4 @@ returns c = record {
   drawn = rw (c.in_ok-name.ensures, c.in_ok-attributes.ensures, c.draw-c.ensures.value) refl;
   generator = rw (c.draw-c.ensures.left) refl;
   spelled = ap₂ (λ n names. is_name n && are_attributes names) c.in_ok-name.ensures c.in_ok-attributes.ensures ∙ both_hold _ _ (name_form (codes "s") (c.args.i) refl (omega arith)) (one_form (numbered (codes "c") c.draw-c.result) (name_form (codes "c") (c.draw-c.result) refl (omega arith)));
-  others = refl;
 }

@@ -8,5 +8,4 @@ returns c = record {
   drawn = rw (c.in_ok-name.ensures, c.with_attributes-service_roles.ensures, c.everything-router_roles.ensures, c.in_ok-left.ensures, c.draw-c.ensures.value) refl;
   generator = rw (c.draw-c.ensures.left) refl;
   spelled = rw (c.in_ok-name.ensures, c.with_attributes-service_roles.ensures, c.everything-router_roles.ensures, c.in_ok-left.ensures) (both_hold _ _ (name_form (codes "f") (c.args.i) refl (omega arith)) (both_hold _ _ (one_side (numbered (codes "c") c.draw-c.result) (name_form (codes "c") (c.draw-c.result) refl (omega arith)) refl) refl));
-  others = refl;
 }

@@ -1,8 +1,0 @@
-use Rattle.std.proofs.Common.{refl}
-use Rattle.std.specs.Str.{is_utf8, chars}
-use Rattle.serde_json.proofs.OnLiterals.{serde_json_on_literals}
-use Rattle.command_codec.proofs.worked.worked_terminators.Goals as goal
-
-pub returns : goal.returns
-unfolding serde_json_on_literals is_utf8 chars
-returns c = record { made = refl; made_in_full = refl; empty_instance = refl; updated = refl; deleted = refl; no_instance = refl; null_host = refl; normal = refl; zero = refl; beyond = refl; no_cost = refl }

@@ -1,0 +1,14 @@
+//! Tests of whole runs on folders that are given byte by byte: what each word does on them, where they are damaged, what is advised by them, and what
+//! is shipped of them.
+#![tactic(auto)]
+
+#[cfg(test)]
+mod checks;
+#[cfg(test)]
+mod damaged_folders;
+#[cfg(test)]
+mod folder_cases;
+#[cfg(test)]
+mod reports;
+#[cfg(test)]
+mod ships;
