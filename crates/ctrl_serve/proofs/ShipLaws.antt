@@ -94,21 +94,21 @@ ships_by {seen = seen} {new = new} from tells fault status by is quiet judged no
   notes = notes;
 }
 
--- A folder of which not nothing was known was judged.
-judged_first : {A : Type 0} → ⊥ ⊎ A → A
-judged_first (inl none) = absurd none
-judged_first (inr a) = a
+-- Where all was said the folder was judged first.
+judged_done : {A : Type 0} → ⊥ ⊎ A → A
+judged_done (inl none) = absurd none
+judged_done (inr a) = a
 
--- A folder of which a say failed was found to open.
-unread : {A C : Type 0} → (⊥ × A) ⊎ C → ⊥ ⊎ C
-unread (inl none) = absurd none.0
-unread (inr c) = inr c
+-- And so it was where a say failed.
+judged_said : {A C : Type 0} → (⊥ × A) ⊎ C → C
+judged_said (inl none) = absurd none.0
+judged_said (inr c) = c
 
 -- All was shipped.
 pub shipped_done : {D : Type 0} {seen : D → Seen} {stopped : D → Stopped} {old new : D} (from : ℕ) (tells : Bool) → IsShippedBy from tells seen stopped None old new
     → Ships from tells (seen old) (seen new) Done
 shipped_done {seen = seen} {old = old} {new = new} from tells by =
-    ships_by from tells None Done by refl refl (judged_first by.opens) (notes_from [] (seen old) (seen new) (seen new) by.alone.notes by.alone.failed_notes (notes_none (seen new)))
+    ships_by from tells None Done by refl refl (judged_done by.opens) (notes_from [] (seen old) (seen new) (seen new) by.alone.notes by.alone.failed_notes (notes_none (seen new)))
 
 -- The notes of a status that is told.
 noted_status : (tells : Bool) (before now : Seen) (is status : Status) → status ≡ is → NotesShipped is tells before now → NotesShipped status tells before now
@@ -125,7 +125,7 @@ unshipped {seen = seen} {stopped = stopped} from tells ship.Disk old mid new sta
           (noted_status tells (seen old) (seen new) DiskFault status told.0 (notes_from _ (seen old) (seen mid) (seen new) by.alone.notes by.alone.failed_notes told.1)))
     ]
 unshipped {seen = seen} from tells ship.Write old mid new status by notes more told =
-    inr (ships_by from tells (Some ship.Write) status by told.0 notes.replies (judged_first (unread by.opens))
+    inr (ships_by from tells (Some ship.Write) status by told.0 notes.replies (judged_said by.opens)
     (noted_status tells (seen old) (seen new) WriteFault status told.0 (notes_from _ (seen old) (seen mid) (seen new) by.alone.notes by.alone.failed_notes told.1)))
 unshipped {seen = seen} {stopped = stopped} from tells (ship.Damaged part at) old mid new status by notes more told =
     elim by.opens as (λ _. IsUnopened None tells seen stopped old new status ⊎ Ships from tells (seen old) (seen new) status) [

@@ -38,7 +38,7 @@ NotesShipped Damaged tells before now = (part : Part) × (at : ℕ) × (IsTrue t
 NotesShipped status tells before now = NotesLines (status_lines [] status) before now
 
 -- What a run that ships from a serial on has said at a status of a folder that was found to have the rows of a state in a format, whether the
--- folder is told or not: frames that are shipped of it.
+-- folder is told or not: frames that are shipped of one with these rows. In the second format they are those of some batches, each spelled.
 pub record SaysOf (from : ℕ) (state : State) (status : Status) (before now : Option (List ℕ)) : Type 0 where
   pub format : Format
   pub has : HasRows format state
@@ -47,7 +47,7 @@ pub record SaysOf (from : ℕ) (state : State) (status : Status) (before now : O
   pub said : SaysShipped status before now all
 
 -- A run of `ship N` on a folder that opens to a state, which is valid: it says what is shipped from N on of the batches for which the folder
--- stands. Of a folder that is not told, too, it says frames that are shipped of the state that it found there.
+-- stands. Of a folder that is not told, too, a valid state was found there, and then the frames of batches are said.
 pub record Ships (from : ℕ) (tells : Bool) (before now : Seen) (status : Status) : Type 0 where
   pub state : State
   pub valid : ValidState state

@@ -262,7 +262,7 @@ pub fn done_compacts_all<S: Source, D: Desk>()
 {}
 
 /// What `Damaged` says under any words: nothing was taken, and nothing said, unless the folder is not told and was shipped: then whole frames were,
-/// which are shipped of a valid state that it was found to have.
+/// those of batches that can be spelled, behind a valid state that the folder was found to have.
 /// A told folder was left alone, every part of it and all that a stop may leave at any moment; and it opens to no state, at the place that the
 /// note names.
 pub fn damage_changes_nothing<S: Source, D: Desk>()

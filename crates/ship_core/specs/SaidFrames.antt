@@ -34,8 +34,8 @@ pub record SaysFrames {D : Type 0} (seen : D → Seen) (stopped : D → Stopped)
   pub said : TookUnless fault (seen old).said (seen new).said (written frames)
   pub stops : Elapses (stopped old) (stopped new) (Saying (stopped old).images (seen old).said (written frames))
 
--- A folder was found to have the rows of a valid state, of the one to which it opens where it is told, and then frames were said that are shipped
--- of it from a serial on.
+-- A folder was found to have the rows of a valid state, of the one to which it opens where it is told. Then frames were said that are shipped
+-- from a serial on of a folder with these rows, as far as that is known of one that may not be told.
 pub record ShipsJudged {D : Type 0} (tells : Bool) (seen : D → Seen) (stopped : D → Stopped) (from : ℕ) (old new : D) (fault : Option ShipFault) : Type 0 where
   pub state : State
   pub valid : ValidState state

@@ -84,7 +84,7 @@ AreSpelled batches = AllByRecursion (λ (bytes : List ℕ). (ops : List Op) × S
 -- Some frames are shipped from a serial on of a folder of a format that was found to have these rows, whether it is told or not. Of the first
 -- format they are those of the one Whole of the rows. Of the second format, whose records are read once more, they are all pieces of those of some
 -- batches that have the serial or a later one: each batch is spelled, the first of them all is a Whole and each later one a Next, and each has the
--- serial of the rows behind it.
+-- serial of the rows behind it. That these batches are those of which the rows were read can only be said of a folder that is told.
 abbrev pub AreShippedOf : (from : ℕ) → Format → ByteRows → List Frame → Type 0
 AreShippedOf from One rows frames = frames ≡ frames_of_all 0 (chosen from (old_shipments rows))
 AreShippedOf from Two rows frames = (batches : List (List ℕ)) × AreSpelled batches × (frames ≡ frames_of_all 0 (filter (is_from from) (shipments Two batches)))

@@ -104,8 +104,8 @@ fn ship_store<D: Desk>(
 ///
 /// Where nothing fails exactly these frames are said, and else the first of them, each whole; where a say failed a front of the first
 /// ones. `Damaged` comes exactly where the folder opens to no state, with the first place at which it is damaged. Nothing is said of a folder
-/// that opens to no state, whatever failed. Where the folder is not told `Damaged` may come behind some frames too; what is said are then frames
-/// that are shipped of the valid state whose rows the folder was found to have.
+/// that opens to no state, whatever failed. Where the folder is not told `Damaged` may come behind some frames too. What is said of it are frames
+/// of batches that can be spelled, numbered and in order, behind a valid state whose rows the folder was found to have.
 pub fn ship<D: Desk>(alloc: Global, desk: &mut D, from: u64) -> Result<(), ShipFault>
     ensures says { IsTrue D.tells → (format : Format) (batches : List (List ℕ)) → Stands format (D.seen desk.old).reads batches
         → SaysFrames D.seen D.stopped desk.old desk.new (fault_of result) (shipped from format batches) }
