@@ -38,7 +38,7 @@ attribute_words names = flat_map (λ name. codes " #" ++ name) names
 abbrev pub side_words : Side → List ℕ
 side_words side = if side.all then codes " #all" else flat_map (λ name. codes " @" ++ name) side.ids ++ attribute_words side.attributes
 
--- A text as a body has it: in quotes. The texts of a line have no byte that a body escapes.
+-- A text as a body has it: in quotes. Names and addresses have no byte that a body escapes.
 abbrev pub quoted_word : List ℕ → List ℕ
 quoted_word text = codes "\"" ++ (text ++ codes "\"")
 
