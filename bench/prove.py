@@ -6,14 +6,16 @@
     python3 bench/prove.py edits [--lanes N] CRATE..     tries the wrong bodies of these crates
     python3 bench/prove.py check CRATE [rattle's flags]  checks one crate over those below as they were proved, and keeps its work
     python3 bench/prove.py stale                         names the crates that are not proved as they stand
+    python3 bench/prove.py table                         prints what each part that passed took, in processor seconds, and the sums
 
 Each part is what `rt ci` runs for it, from nothing, one processor a crate where several wait. What passed is kept in the crate's out/ under a sum of
 the text of the crate and of all below it, and is not run again while that stays. It is no verdict on the whole: that is a plain `rt ci`."""
 
-import copy
+import contextlib
 import hashlib
 import os
 import shutil
+import subprocess
 import sys
 import time
 from concurrent.futures import FIRST_COMPLETED, ThreadPoolExecutor, wait
@@ -57,13 +59,18 @@ class Kept:
             self.sums[crate.name] = found.hexdigest()
         return self.sums[crate.name]
 
-    def has(self, crate, part):
+    def seconds(self, crate, part):
+        """The processor seconds that a part took when it passed, or None where it has not passed as the text stands."""
+        found = (rtlib.text_of(f"{crate.folder}/out/passed-{part}") or "").split()
         is_there = part != "proof" or crate.is_program or os.path.isdir(crate.rlib)
-        return is_there and rtlib.text_of(f"{crate.folder}/out/passed-{part}") == self.sum(crate)
+        return float(found[1]) if is_there and found[:1] == [self.sum(crate)] else None
 
-    def note(self, crate, part):
+    def has(self, crate, part):
+        return self.seconds(crate, part) is not None
+
+    def note(self, crate, part, seconds):
         with open(f"{crate.folder}/out/passed-{part}", "w", encoding="utf-8") as it:
-            it.write(self.sum(crate))
+            it.write(f"{self.sum(crate)} {seconds:.1f}\n")
 
 
 def say(text):
@@ -81,10 +88,8 @@ def tested(crate, jobs):
 def refused(crate, _):
     good, bad = rt.edits_of(crate)
     tried = rt.must_fail_all(crate, good, ["--jobs", "1"])
-    for well, text in tried:
+    for _, text in tried:
         print(text, file=crate.out)
-        if not well:
-            say(text)
     return not bad and all(well for well, _ in tried)
 
 
@@ -92,20 +97,39 @@ PARTS = {"proof": proved, "tests": tested, "edits": refused}
 
 
 def passes(kept, crate, part, jobs):
-    """Runs a part of a crate, tells how it went, and keeps it where it passed."""
+    """Runs a part of a crate in a process of its own, tells how it went and what it took, and keeps it where it passed."""
     if kept.has(crate, part):
         return True
-    crate, began = copy.copy(crate), time.time()
+    began, log = time.time(), f"{crate.folder}/out/{part}.log"
     os.makedirs(f"{crate.folder}/out", exist_ok=True)
-    with open(f"{crate.folder}/out/{part}.log", "w+", errors="replace", encoding="utf-8") as crate.out:
-        try:
-            is_well = PARTS[part](crate, jobs)
-        except SystemExit:
-            is_well = False
-    say(f"{crate.name}: {part} {'passed' if is_well else 'FAILED, see ' + crate.out.name} in {time.time() - began:.0f} s")
-    if is_well:
-        kept.note(crate, part)
-    return is_well
+    with open(log, "w", encoding="utf-8") as out:
+        ran = subprocess.Popen([sys.executable, __file__, "one", part, crate.name, str(jobs)], stdout=out, stderr=subprocess.STDOUT)
+        _, status, used = os.wait4(ran.pid, 0)
+    seconds = used.ru_utime + used.ru_stime
+    told = "FAILED, see " + log if status else "passed"
+    say(f"{crate.name}: {part} {told} in {time.time() - began:.0f} s, {seconds:.0f} s of processors")
+    if not status:
+        kept.note(crate, part, seconds)
+    return not status
+
+
+def run_one(crate, part, jobs):
+    """Runs a part of a crate in this process."""
+    crate.out = sys.stdout
+    with contextlib.suppress(SystemExit):
+        return PARTS[part](crate, jobs)
+    return False
+
+
+def table(kept, crates):
+    """Prints what each part that passed took."""
+    sums = dict.fromkeys(PARTS, 0)
+    print(f"{'crate':24}" + "".join(f"{it:>8}" for it in PARTS))
+    for crate in crates:
+        found = {it: kept.seconds(crate, it) for it in PARTS}
+        print(f"{crate.name:24}" + "".join(f"{'-' if it is None else round(it):>8}" for it in found.values()))
+        sums = {it: sums[it] + (found[it] or 0) for it in PARTS}
+    print(f"{'processor minutes':24}" + "".join(f"{it / 60:8.0f}" for it in sums.values()))
 
 
 def with_below(crates, names):
@@ -151,7 +175,7 @@ def check(kept, crate, flags):
 
 def main(verb="", *words):
     words = list(words)
-    if verb not in (*PARTS, "check", "stale"):
+    if verb not in (*PARTS, "check", "stale", "table", "one"):
         sys.exit(__doc__)
     os.chdir(ROOT)
     lanes = int(words.pop(words.index("--lanes") + 1)) if "--lanes" in words else len(os.sched_getaffinity(0))
@@ -160,6 +184,11 @@ def main(verb="", *words):
     if verb == "stale":
         print(" ".join(it.name for it in crates if not kept.has(it, "proof")))
         return True
+    if verb == "table":
+        table(kept, crates)
+        return True
+    if verb == "one":
+        return run_one(next(it for it in crates if it.name == words[1]), words[0], int(words[2]))
     if verb == "check":
         return check(kept, next(it for it in crates if it.name == words[0]), words[1:])
     if not prove(kept, with_below(crates, words), lanes):

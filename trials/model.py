@@ -2,15 +2,22 @@
 """Compares the built program with an independent model of the controller, byte by byte.
 
 usage: model.py PROGRAM [COMMANDS [SEED [SIZE]]]
+       model.py folders PROGRAM [FOLDERS [SEED]]
+       model.py journal PROGRAM
        model.py cases FOLDER [COMMANDS [SEED [SIZE]]]
 
-The model is written from docs/RULES.md and docs/FORMATS.md alone: model_bodies.py reads frames and bodies, model_rules.py has the state, grants, paths
-and settling, model_commands.py the commands, model_folder.py the rows. Compared are the replies to the examples, the counts line of some loads, the
-replies to inputs that reach the limits, and those to random inputs of about SIZE commands each, else 300, until there are so many commands, with status and notes; a
-tenth of these inputs is answered by two runs on a folder too, and as many others on a folder that was written before circuits were revoked. At the first
-difference the input is shortened, and the command and both replies are printed.
+The model is written from docs/RULES.md and docs/FORMATS.md alone: model_bodies.py reads frames and bodies, model_rules.py has the state, grants, paths, intercepts
+and settling, model_commands.py the commands, model_rows.py the rows in both formats, model_folder.py batches, slots and runs on a folder. Compared are the replies to
+the examples, the counts line of some loads, the replies to inputs that reach the limits, and those to random inputs of about SIZE commands each, else 300, until
+there are so many commands, with status and notes; a tenth of these inputs is answered by two runs on a folder too, and as many others on a folder of the first or the
+second format that an earlier run left. Behind each run on a folder each file must have the model's bytes. At the first difference the input is shortened, and the
+command and both replies are printed.
 
-The second form runs nothing. It writes the same inputs with what the model says to them, for `rt try --cases FOLDER/dry`, and for `rt try --cases FOLDER/old`
+The second form compares runs on folders alone, so many of them: whole ones of both formats in either slot, stopped and damaged ones, and those at the limits.
+
+The third form compares runs on slots of 2^30 bytes, which leave just room for a change, or just none.
+
+The last form runs nothing. It writes the same inputs with what the model says to them, for `rt try --cases FOLDER/dry`, and for `rt try --cases FOLDER/old`
 with both files of FOLDER/folder as `--data`.
 """
 
@@ -18,24 +25,28 @@ import collections
 import os
 import random
 import sys
-import tempfile
 import time
 
 import frames
 import model_bodies as bodies
 import model_commands as commands
+import model_damage as damage
 import model_folder as folders
 import model_inputs as scenes
 import model_limits as limits
 import model_load as load
 import model_rules as rules
+import model_runs as runs
 import model_sessions as sessions
 import model_spellings as spellings
 
 EXAMPLES = os.path.join(os.path.dirname(os.path.abspath(__file__)), "..", "examples")
+EXAMPLE_NAMES = ("ann", "network", "story", "claims", "realistic", "import/network")
 LOADS = [0, 1, 2, 3, 7, 126, 2**32 - 1]
 # One of so many random inputs is answered on a folder too.
 KEPT = 10
+# The commands of a limit that are answered on a folder too.
+MOST_KEPT = 1000
 
 
 def model_replies(data, state=None):
@@ -76,28 +87,6 @@ def differs(program, requests):
     return first_difference(program, requests, b"", model_replies(b"".join(requests))) is not None
 
 
-def shortened(program, requests):
-    """The requests without those that the difference does not need."""
-    size = len(requests) // 2
-    while size >= 1:
-        at = 0
-        while at < len(requests):
-            fewer = requests[:at] + requests[at + size:]
-            if differs(program, fewer):
-                requests = fewer
-            else:
-                at += size
-        size //= 2
-    return requests
-
-
-def line(request):
-    """A request as a line of `zitiline`, as far as one tells it."""
-    (sequence, content, body), = bodies.read_session(request)[0]
-    name = bodies.COMMANDS[content][0] if content in bodies.COMMANDS else content
-    return f"{sequence} {name} {body.decode(errors='backslashreplace')}"
-
-
 def compare(program, word, requests, tail=b"", expected=None):
     """Compares one input, and ends the trial where the program does not say what the model says."""
     expected = expected or model_replies(b"".join(requests) + tail)
@@ -105,74 +94,13 @@ def compare(program, word, requests, tail=b"", expected=None):
     if found is None:
         return
     at, model, said = found
-    print(f"{word}: another reply at place {at}:", line(requests[at]) if at < len(requests) else tail, f"\nmodel:   {model}\nprogram: {said}")
+    print(f"{word}: another reply at place {at}:", runs.line(requests[at]) if at < len(requests) else tail, f"\nmodel:   {model}\nprogram: {said}")
     front = requests[:at + 1]
     if differs(program, front):
-        front = shortened(program, front)
+        front = runs.shortened(lambda fewer: differs(program, fewer), front)
         at, model, said = first_difference(program, front, b"", model_replies(b"".join(front)))
-        print("shortened:", *map(line, front), f"model:   {model}", f"program: {said}", sep="\n")
+        print("shortened:", *map(runs.line, front), f"model:   {model}", f"program: {said}", sep="\n")
     sys.exit(1)
-
-
-def compare_kept(program, word, requests, cut):
-    """Compares an input in two runs on a folder: the second one goes on from the state that the first one left. Behind both the counts must be the model's."""
-    state, parts = rules.State(), (requests[:cut], requests[cut:])
-    with tempfile.TemporaryDirectory() as folder:
-        for part in parts:
-            replies, status, note = model_replies(b"".join(part), state)
-            found = frames.run(program, "replay", b"".join(part), folder)
-            if found != (status, b"".join(replies), note.encode()):
-                theirs = split_replies(found[1])
-                at = next((at for at, pair in enumerate(zip(replies, theirs)) if pair[0] != pair[1]), len(theirs))
-                print(f"{word}, kept in two runs of {len(parts[0])} and {len(parts[1])}: another reply at place {at}:", *map(line, part[:at + 1]), sep="\n")
-                print(f"model:   {replies[at:at + 1]}\nprogram: {theirs[at:at + 1]} status {found[0]} {found[2]}")
-                sys.exit(1)
-        assert frames.run(program, "audit", b"", folder) == (0, counts_line(state), b""), word
-
-
-def old_folder(rand, size):
-    """A scene without revocation, its state with some more circuits that nothing may grant, and the folder of it."""
-    old = scenes.old_scene(rand, size)
-    folders.plant_circuits(rand, old.state, rand.randint(2, 6))
-    return old, old.state, folders.written(old.state)
-
-
-def compare_old(program, word, rand, each):
-    """Compares an input on a folder that a controller without revocation left."""
-    old, state, files = old_folder(rand, each)
-    scene = scenes.behind(rand, old, state, each)
-    with tempfile.TemporaryDirectory() as folder:
-        for name, data in files.items():
-            with open(os.path.join(folder, name), "wb") as file:
-                file.write(data)
-        assert frames.run(program, "audit", b"", folder) == (0, counts_line(state), b""), word
-        found = frames.run(program, "replay", b"".join(scene.requests), folder)
-        if found != (0, b"".join(scene.replies), b""):
-            theirs = split_replies(found[1])
-            at = next((at for at, pair in enumerate(zip(scene.replies, theirs)) if pair[0] != pair[1]), len(theirs))
-            print(f"{word}, on an old folder: another reply at place {at}:", *map(line, scene.requests[:at + 1]), sep="\n")
-            print(f"model:   {scene.replies[at:at + 1]}\nprogram: {theirs[at:at + 1]} status {found[0]} {found[2]}")
-            sys.exit(1)
-        assert frames.run(program, "audit", b"", folder) == (0, counts_line(scene.state), b""), word
-    return scene
-
-
-def compare_sessions(program, word, data):
-    """Compares a trace of many sessions: what is said, the status, the notes, and the counts behind it."""
-    trace = sessions.Trace(data)
-    with tempfile.TemporaryDirectory() as folder:
-        found = frames.run(program, "replay --sessions", data, folder)
-        behind = frames.run(program, "audit", b"", folder)
-    if found != (trace.status, trace.said, trace.notes.encode()) or behind != (0, counts_line(trace.state), b""):
-        at = next((at for at, pair in enumerate(zip(found[1], trace.said)) if pair[0] != pair[1]), min(len(found[1]), len(trace.said)))
-        print(f"{word}, as a trace of {len(data)} bytes: other replies from byte {at} on")
-        print(f"model:   {trace.said[max(0, at - 60):at + 200]} {trace.status} {trace.notes}\nprogram: {found[1][max(0, at - 60):at + 200]} {found[0]} {found[2]}\n{behind}")
-        sys.exit(1)
-    return trace.said.count(b'"NotPermitted"')
-
-
-def counts_line(state):
-    return commands.answer(state, bodies.CONTENTS["ShowCounts"], b"{}")[2] + b"\n"
 
 
 def numbered(named):
@@ -199,7 +127,7 @@ def reply_line(reply):
 
 
 def compare_examples(program):
-    for name in ("ann", "network", "realistic", "import/network"):
+    for name in EXAMPLE_NAMES:
         requests, lines = example(name)
         replies = model_replies(b"".join(requests))[0]
         assert [reply_line(reply) for reply in replies] == lines, name
@@ -219,7 +147,7 @@ def compare_loads(program):
     for number in LOADS:
         state = loaded(number)
         found = frames.run(program, f"load {number}", b"", "/")
-        assert found == (0, counts_line(state), b""), (number, counts_line(state), found)
+        assert found == (0, folders.counts_line(state), b""), (number, folders.counts_line(state), found)
     print("loads:", *LOADS)
 
 
@@ -227,6 +155,8 @@ def compare_limits(program):
     for word, named in limits.inputs():
         requests = numbered(named)
         compare(program, f"limit of {word}", requests)
+        if len(requests) < MOST_KEPT:
+            runs.compare_run(program, f"limit of {word}, kept", "replay", {}, b"".join(requests), requests)
         print(f"limit of {word}: {len(requests)} commands")
 
 
@@ -258,9 +188,9 @@ def compare_scenes(program, size, seed, each):
         compare(program, word, requests, tail, (replies, status, note))
         tally.add(scene)
         if at % KEPT == 0:
-            compare_kept(program, word, requests, rand.randrange(len(requests)))
-            tally.done["sessions", "NotPermitted"] += compare_sessions(program, word, sessions.random_trace(rand, requests))
-            scene = compare_old(program, word, random.Random(f"old {seed} {at}"), each)
+            runs.compare_kept(program, word, requests, rand.randrange(len(requests)), rand.random() < 0.3)
+            tally.done["sessions", "NotPermitted"] += runs.compare_sessions(program, word, sessions.random_trace(rand, requests))
+            scene = runs.compare_old(program, word, random.Random(f"old {seed} {at}"), each)
             tally.add(scene)
             tally.old += len(scene.requests)
     return tally
@@ -322,13 +252,13 @@ def write_cases(folder, size, seed, each):
     dry, old, kept = (os.path.join(folder, name) for name in ("dry", "old", "folder"))
     for name in (dry, old, kept):
         os.makedirs(name)
-    for name in ("ann", "network", "realistic", "import/network"):
+    for name in EXAMPLE_NAMES:
         requests, lines = example(name)
         replies = model_replies(b"".join(requests))[0]
         print(f"example {name}: {sum(reply_line(reply) != told for reply, told in zip(replies, lines))} of {len(lines)} lines of the file are other ones")
         write_case(dry, "example" + name, "dry", b"".join(requests), b"".join(replies))
     for number in LOADS:
-        write_case(dry, f"load{number}", f"load {number}", b"", counts_line(loaded(number)))
+        write_case(dry, f"load{number}", f"load {number}", b"", folders.counts_line(loaded(number)))
     for word, named in limits.inputs():
         requests = numbered(named)
         replies = model_replies(b"".join(requests))[0]
@@ -345,28 +275,45 @@ def write_cases(folder, size, seed, each):
         if at % KEPT == 0:
             rand.randrange(len(scene.requests))
             data = sessions.random_trace(rand, scene.requests)
-            trace = sessions.Trace(data)
+            trace = folders.Run("replay --sessions", {}, data)
             tally.done["sessions", "NotPermitted"] += trace.said.count(b'"NotPermitted"')
             write_case(dry, f"trace{at}", "replay --sessions", data, trace.said)
     rand = random.Random(f"old {seed}")
-    before, state, files = old_folder(rand, 600)
-    while not has_lost_much(state):
-        before, state, files = old_folder(rand, 600)
+    before, files = damage.history(rand, 600, 1)
+    while not has_lost_much(folders.Look(files).state):
+        before, files = damage.history(rand, 600, 1)
+    state = folders.Look(files).state
     lost = collections.Counter(str(rules.what_is_lost(state, circuit)) for circuit in state.tables["circuit"].values())
     print("circuits of the old folder, by what they have lost:", dict(lost))
     for name, data in files.items():
         with open(os.path.join(kept, name), "wb") as file:
             file.write(data)
-    write_case(old, "audit", "audit", b"", counts_line(state))
+    write_case(old, "audit", "audit", b"", folders.counts_line(state))
     while tally.old < size // 4:
-        scene = scenes.behind(rand, before, state, each)
+        scene = scenes.behind(rand, before.pools, folders.Kept(files), each)
         write_case(old, f"old{tally.inputs}", "replay", b"".join(scene.requests), b"".join(scene.replies))
         tally.add(scene)
         tally.old += len(scene.requests)
     return tally
 
 
+def main_folders(program, most=2000, seed=1):
+    begun = time.monotonic()
+    if "ship" in folders.LOOKS:
+        runs.compare_pieces(os.path.abspath(program))
+    tally = runs.compare_folders(os.path.abspath(program), int(most), int(seed))
+    for (how, words, status, fault), count in sorted(tally.items()):
+        print(f"{how}{', ' * bool(words)}{words}: status {status}{', ' * bool(fault)}{fault}: {count}")
+    print(f"{sum(tally.values())} folders, {time.monotonic() - begun:.0f} s, no difference")
+
+
 def main():
+    if sys.argv[1] == "folders":
+        main_folders(*sys.argv[2:])
+        return
+    if sys.argv[1] == "journal":
+        runs.compare_journal(os.path.abspath(sys.argv[2]))
+        return
     begun = time.monotonic()
     words = [word for word in sys.argv[1:] if word != "cases"]
     size, seed, each = [int(word) for word in words[1:]] + [100_000, 1, 300][len(words) - 1:]
@@ -376,6 +323,7 @@ def main():
         program = os.path.abspath(words[0])
         compare_examples(program)
         compare_loads(program)
+        runs.compare_words(program)
         compare_limits(program)
         tally = compare_scenes(program, size, seed, each)
     tell(tally)

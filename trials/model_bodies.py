@@ -197,11 +197,76 @@ def potential(value):
     return {"router": NUMBER(value["router"]), "values": values}
 
 
+# Intercepts.
+
+
+def address_of(text):
+    """The address that a text is: a host, what is under one, or a range with its first number and its bits; None where it is none."""
+    form = "host" if text[:2] != "*." else "under"
+    host = text if form == "host" else text[2:]
+    labels = host.split(".")
+    if len(host) <= MOST_HOST and all(LABEL.fullmatch(label) for label in labels) and not re.fullmatch("[0-9]+", labels[-1]):
+        return form, host.lower()
+    found = RANGE.fullmatch(text)
+    if found is None or any(int(part) > 255 for part in found.groups()[:4]) or int(found[5] or 32) > 32:
+        return None
+    bits = int(found[5] or 32)
+    first = int.from_bytes(bytes(int(part) for part in found.groups()[:4]), "big")
+    return "range", first >> 32 - bits << 32 - bits, bits
+
+
+def address_text(address):
+    """The one spelling of an address."""
+    if address[0] != "range":
+        return ("*." if address[0] == "under" else "") + address[1]
+    return ".".join(map(str, address[1].to_bytes(4, "big"))) + (f"/{address[2]}" if address[2] < 32 else "")
+
+
+def address(value):
+    """An address in its one spelling."""
+    demand(isinstance(value, str) and address_of(value))
+    return address_text(address_of(value))
+
+
+def destination(value):
+    """A host, or one address of four numbers."""
+    spelled = address(value)
+    demand("*" not in spelled and "/" not in spelled)
+    return spelled
+
+
+def port_range(value):
+    demand(isinstance(value, list) and len(value) == 2)
+    lowest, highest = map(PORT, value)
+    demand(lowest <= highest)
+    return lowest, highest
+
+
+def things(kind, most):
+    """A list of at least one thing, without the repeats at later places."""
+    def read(value):
+        listed = entries(kind, most)(value)
+        demand(listed)
+        return list(dict.fromkeys(listed))
+    return read
+
+
+def protocols(value):
+    return sorted(things(PROTOCOL, 2)(value))
+
+
+LABEL = re.compile(r"[A-Za-z0-9_-]{1,63}")
+DECIMAL = r"(0|[1-9][0-9]{0,2})"
+RANGE = re.compile(r"\.".join([DECIMAL] * 4) + f"(?:/{DECIMAL})?")
+MOST_HOST, MOST_CLAIMED = 253, 32
+
 NUMBER = number(1, MOST_NUMBER)
 TOTAL = number(0, MOST_NUMBER)
 COST = number(0, 65_535)
 LINK_COST = number(1, 65_535)
 LATENCY = number(0, 60_000)
+PORT = number(1, 65_535)
+PROTOCOL = word("tcp", "udp")
 SEMANTIC = ("semantic", word("AnyOf", "AllOf"))
 PRECEDENCES = ("required", "default", "failed")
 PRECEDENCE = word(*PRECEDENCES)
@@ -261,6 +326,10 @@ COMMANDS = {
     1502: ("ShowCounts", []),
     1503: ("ShowCircuit", [("no", NUMBER)]),
     1510: ("Compact", []),
+    1600: ("SetIntercept", [("service", name), ("protocols", protocols), ("addresses", things(address, MOST_CLAIMED)), ("ports", things(port_range, MOST_CLAIMED))]),
+    1601: ("ClearIntercept", [("service", name)]),
+    1610: ("Pick", [("identity", name), ("protocol", PROTOCOL), ("address", destination), ("port", PORT)]),
+    1611: ("ListClashes", [("identity", name), ("service", name)]),
 }
 CONTENTS = {command: content for content, (command, _) in COMMANDS.items()}
 

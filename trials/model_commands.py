@@ -36,7 +36,10 @@ def update_entity(kind, state, fields):
 
 
 def delete_entity(kind, state, fields):
-    del state.tables[kind][state.named(kind, fields["name"], "name")]
+    number = state.named(kind, fields["name"], "name")
+    del state.tables[kind][number]
+    if kind == "service":
+        state.intercepts.pop(number, None)
     for policy_kind, sides in rules.SIDES.items():
         for policy in state.tables[policy_kind].values():
             if kind in sides and fields["name"] in policy[kind]["names"]:
@@ -162,6 +165,33 @@ def delete_numbered(kind, state, fields):
     return DONE
 
 
+# Intercepts.
+
+
+def set_intercept(state, fields):
+    service = state.named("service", fields["service"], "service")
+    state.intercepts[service] = {part: fields[part] for part in ("protocols", "addresses", "ports")}
+    return DONE
+
+
+def clear_intercept(state, fields):
+    state.intercepts.pop(state.named("service", fields["service"], "service"), None)
+    return DONE
+
+
+def pick(state, fields):
+    found = sorted(rules.hits(state, state.named("identity", fields["identity"], "identity"), fields))
+    if not found:
+        raise Refused(50, "NoIntercept")
+    _, span, low, service, address = found[0]
+    return {"address": address, "high": low + span - 1, "low": low, "service": state.tables["service"][service]["name"]}
+
+
+def list_clashes(state, fields):
+    identity, service = state.named("identity", fields["identity"], "identity"), state.named("service", fields["service"], "service")
+    return {"clashes": [state.tables["service"][other]["name"] for other in rules.clashes(state, identity, service)]}
+
+
 # Circuits, and what is shown.
 
 
@@ -207,6 +237,7 @@ def show_counts(state, _):
 SHOWING = {
     "Hello": lambda state, fields: None, "Compact": lambda state, fields: DONE,
     "Explain": explain, "VerifyRoute": verify_route, "ShowCircuit": show_circuit, "ShowGrants": show_grants, "ListServices": list_services, "ShowCounts": show_counts,
+    "Pick": pick, "ListClashes": list_clashes,
 }
 # Commands that change nothing that another one's circuit stands on, so that there is nothing to settle but in a state that was not settled before.
 CIRCUITS = {"CreateCircuit": create_circuit, "DeleteCircuit": functools.partial(delete_numbered, "circuit")}
@@ -215,6 +246,7 @@ SETTLING = {
     "CreateLink": create_link, "SetLinkCost": set_link_cost, "ReportLatency": report_latency, "ReportState": report_state,
     "DeleteLink": delete_link, "SetLeastRouterCost": set_least_router_cost,
     "CreateTerminator": create_terminator, "UpdateTerminator": update_terminator, "DeleteTerminator": functools.partial(delete_numbered, "terminator"),
+    "SetIntercept": set_intercept, "ClearIntercept": clear_intercept,
 }
 for verb, entity_call, policy_call in (("Create", create_entity, create_policy), ("Update", update_entity, update_policy), ("Delete", delete_entity, delete_policy)):
     SETTLING.update({verb + noun: functools.partial(entity_call, kind) for noun, kind in ENTITIES.items()})

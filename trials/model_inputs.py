@@ -1,12 +1,13 @@
 """Random inputs for the independent model: small networks that change, and the requests that see it (docs/TRIALS.md)."""
 
 import collections
-import copy
+import functools
 import json
 import struct
 
 import frames
 import model_bodies as bodies
+import model_claims as claims
 import model_commands as commands
 import model_rules as rules
 import model_spellings as spellings
@@ -24,7 +25,10 @@ WEIGHTS = {
     "CreateTerminator": 8, "UpdateTerminator": 4, "DeleteTerminator": 2,
     "CreateCircuit": 40, "DeleteCircuit": 3, "Explain": 10, "VerifyRoute": 16,
     "ShowGrants": 4, "ListServices": 3, "ShowCounts": 4, "ShowCircuit": 4, "Hello": 1, "Compact": 1,
+    "SetIntercept": 4, "ClearIntercept": 1, "Pick": 5, "ListClashes": 2,
 }
+# Those that an earlier version does not read.
+CLAIMING = ("SetIntercept", "ClearIntercept", "Pick", "ListClashes")
 # How much more often some are drawn where circuits are to be revoked.
 REVOKING = {
     "CreateCircuit": 3, "Explain": 2, "CreateTerminator": 1.5, "DeleteTerminator": 0.5, "DeleteCircuit": 2, "UpdateTerminator": 2,
@@ -40,14 +44,15 @@ class Scene:
     """A network in the making: the model's state, and the requests and replies so far.
 
     In some scenes circuits stand for long, and links and routers fail; in as many what granted them lapses and comes back, and each service has terminators
-    that cost about the same; in some all changes, and in some half of the bodies are spoiled.
+    that cost about the same; in some services claim what others do; in some all changes, and in some half of the bodies are spoiled.
     """
 
     def __init__(self, rand, kind=None):
         self.rand, self.state = rand, rules.State()
+        self.answer = functools.partial(commands.answer, self.state)
         self.requests, self.replies, self.tally, self.moved, self.seen, self.how = [], [], {}, {}, collections.Counter(), ""
-        kind = kind or rand.choices(["settling", "revoking", "changing", "spoiled"], [8, 8, 3, 1])[0]
-        self.revokes, self.settles = kind == "revoking", kind in ("settling", "revoking")
+        kind = kind or rand.choices(["settling", "revoking", "claiming", "changing", "spoiled"], [7, 7, 4, 3, 1])[0]
+        self.revokes, self.settles, self.claims_much = kind == "revoking", kind in ("settling", "revoking"), kind == "claiming"
         self.spoils, self.absent = 0.5 if kind == "spoiled" else 0.04, 0.06 if self.settles else 0.15
         routers = rand.randint(4, 6) if self.revokes else rand.randint(3, 8) if self.settles else rand.randint(2, 8)
         self.pools = {
@@ -59,9 +64,18 @@ class Scene:
         self.most_cost, self.router_costs = rand.choice([1, 2, 3, 6, 40]), rand.choice([[0], [0], [0, 0, 0, 5, 12, 30]])
         factor = {command: REVOKING.get(command, 1) if self.revokes else 0.1 if self.settles and command in CALM else 1 for command in WEIGHTS}
         self.weights = [weight * rand.choice([0.3, 1, 1, 3]) * factor[command] for command, weight in WEIGHTS.items()]
+        if kind == "claiming":
+            self.pools["service"] = ["s1", "s2", "s3", "s4", "s5"]
+            self.weights = [claims.WEIGHTS.get(command, 0.2) for command in WEIGHTS]
         if kind == "spoiled":
             self.weights = [1] * len(WEIGHTS)
-        self.claims = []
+        self.claims, self.claimed = [], claims.Draws(self)
+
+    def stand_on(self, kept):
+        """Goes on from the state of a folder, and answers by it; what an earlier version does not read is not drawn for one of the first format."""
+        self.state, self.answer = kept.state, kept.answer
+        if kept.form == 1:
+            self.weights = [weight * (command not in CLAIMING) for command, weight in zip(WEIGHTS, self.weights)]
 
     def send(self, content, body):
         """Sends a body: the model answers it, and both are kept."""
@@ -72,13 +86,14 @@ class Scene:
             headers = b"".join(struct.pack("<II", rand.choice([1, 2, 7]), size) + spellings.some_bytes(rand, size) for size in (0, rand.randrange(9)))
             data = data[:12] + struct.pack("<II", len(headers), len(body)) + headers + body
         before, route = len(self.state.tables["circuit"]), self.loaded_route(content, body)
-        done, succeeds, text = commands.answer(self.state, content, body)
+        done, succeeds, text = self.answer(content, body)
         self.replies.append(bodies.reply_frame(sequence, len(self.requests), succeeds, text))
         self.requests.append(data)
         self.tally[done] = self.tally.get(done, 0) + 1
         self.how = done[1]
         if route is not None and self.how == "done":
             self.seen.update(route)
+        self.seen.update(claims.seen(self.state, done, content, body))
         self.note_moves(done[0], before)
 
     def loaded_route(self, content, body):
@@ -332,6 +347,8 @@ def drawn_fields(scene, command):
         return circuit_fields(scene, command)
     if command in ("ShowGrants", "ListServices"):
         return {"identity": scene.some("identity")}
+    if command in CLAIMING:
+        return scene.claimed.fields(command)
     return link_fields(scene, command) if "Link" in command or "Report" in command else {}
 
 
@@ -422,7 +439,7 @@ def build_up(scene):
         scene.say("CreateIdentity", name=identity, attributes=scene.listed())
     for service in pools["service"][:2]:
         scene.say("CreateService", name=service, attributes=scene.listed())
-    broad = scene.settles or rand.random() < 0.5
+    broad = scene.settles or rand.random() < (0.85 if scene.claims_much else 0.5)
     for kind, noun in ((kind, noun) for noun, kind in commands.POLICIES.items()):
         for policy in pools[kind][:2]:
             if broad and policy == "p1" or kind == "service_policy" and rand.random() < 0.6:
@@ -576,28 +593,42 @@ def go_on(scene, size):
             mend(scene, refusal)
 
 
-# Folders that were written before circuits were revoked.
+# Folders that earlier versions left.
 
 
-def old_scene(rand, size):
-    """A scene of about so many commands without revocation, at whose end circuits may stand that nothing grants."""
-    scene = Scene(rand, "revoking")
-    scene.state.revokes = False
+def old_scene(rand, size, kept):
+    """A scene of about so many commands on a new folder, by times without revocation, so that at its end circuits may stand that nothing grants."""
+    scene = Scene(rand, "revoking" if rand.random() < 0.7 else None)
+    scene.stand_on(kept)
+    kept.state.revokes = rand.random() < 0.3
     build_up(scene)
     go_on(scene, size)
     return scene
 
 
-def behind(rand, old, state, size):
-    """A scene that goes on from a state of an old one, by a controller that revokes: first it looks, and then a command comes that has an effect."""
-    scene = Scene(rand, "revoking")
-    scene.pools, scene.state = old.pools, copy.deepcopy(state)
-    scene.state.revokes, scene.state.is_settled = True, False
+def plant_circuits(rand, state, most):
+    """Puts circuits in that nothing may have granted: over a path, from any router to any terminator, of any identity and service."""
+    tables = state.tables
+    for _ in range(most):
+        if not all(tables[kind] for kind in ("identity", "service", "router", "terminator")):
+            return
+        drawn = {kind: rand.choice(list(tables[kind])) for kind in ("identity", "service", "terminator", "router")}
+        path = rules.least_path(state, drawn["router"], tables["terminator"][drawn["terminator"]]["router"])
+        if path is not None:
+            circuit = {kind: drawn[kind] for kind in ("identity", "service", "terminator")}
+            state.add("circuit", dict(circuit, ingress=drawn["router"], links=path.links))
+
+
+def behind(rand, pools, kept, size):
+    """A scene that goes on from a folder, by a controller that revokes: first it looks, and then a command comes that has an effect."""
+    scene = Scene(rand, rand.choice(["revoking", "revoking", "claiming"]))
+    scene.stand_on(kept)
+    scene.pools, state = dict(scene.pools, **pools), kept.state
     for _ in range(rand.choice([0, 1, 3, 6])):
         command = rand.choice(["ShowCounts", "ShowCircuit", "ShowCircuit", "Explain", "VerifyRoute", "ShowGrants", "Hello", "Compact", "CreateCircuit", "DeleteLink"])
         fields = {"link": "zz"} if command == "DeleteLink" else {"identity": "zz", "service": "zz"} if command == "CreateCircuit" else drawn_fields(scene, command)
         scene.say(command, **fields)
-    start = rand.randrange(6)
+    start = rand.randrange(8)
     if start == 0:
         scene.say("CreateCircuit", **scene.request())
     elif start == 1:
@@ -606,6 +637,9 @@ def behind(rand, old, state, size):
         scene.say("SetLeastRouterCost", cost=state.least_router_cost)
     elif start == 3:
         scene.say("ConnectRouter", name=scene.some("router"))
+    elif start <= 5:
+        command = rand.choice(["SetIntercept", "ClearIntercept"])
+        scene.say(command, **scene.claimed.fields(command))
     for number in list(scene.state.revoked)[:3]:
         scene.say("ShowCircuit", no=number)
     scene.say("ShowCounts")

@@ -148,6 +148,65 @@ def full_kind_and_attributes():
     yield "CreateService", {"name": "new", "attributes": ["a1"]}
 
 
+# Intercepts.
+
+READ_ADDRESSES = ["A", "Web.Example-1.com", "_sip._tcp", "1.2.3.4x", "1.2.3.4.5a", "*.a", "*.A-b", "0-", "1.b", "0.0.0.0", "255.255.255.255/32", "10.1.2.3/31", "9.9.9.9/0"]
+READ_ADDRESSES += ["n" * 63, "1" * 62 + "n", ".".join(["a"] * 127), "*." + ".".join(["a"] * 127), ".".join(["n" * 63] * 3 + ["m" * 61])]
+UNREAD_ADDRESSES = ["", ".", "a.", ".a", "a..b", "a b", "1", "1.2.3", "256.1.1.1", "1.2.3.4.5", "01.2.3.4", "1.2.3.00", "10.1.2.3/33", "10.1.2.3/08", "10.1.2.3/", "10.1.2.3/8/8"]
+UNREAD_ADDRESSES += ["a/8", "*", "*.", "*.*.a", "a.*", "*a.b", "*.10.0.0.1", "*.7", "n" * 64, "a." + "n" * 64, ".".join(["a"] * 126 + ["aa"]) + "b", "1.2.3.4/-1"]
+UNREAD_ADDRESSES += ["*." + ".".join(["a"] * 128), ".".join(["a"] * 125 + ["aaaa"])]
+UNREAD_ADDRESSES += ["1.2.3.4/ 8", "1.2.3.1000", "+1.2.3.4", "a\n", "\u00e4.b", "a\u0000"]
+PORT_LISTS = [[[1, 1]], [[65_535, 65_535]], [[1, 65_535]], [[0, 1]], [[2, 1]], [[1, 65_536]], [[1]], [[1, 2, 3]], [[]], [], [[1, 1]] * 32, [[1, 1]] * 33, [[i, i] for i in range(1, 33)]]
+PORT_LISTS += [[[i, 65_535] for i in range(1, 34)], [[1, "2"]], [[1, None]], [[1.5, 2]], [1, 2], [[1, 1], [1, 1], [1, 2]], {"low": 1}, "1", None, 1, [[True, True]]]
+PROTOCOL_LISTS = [["tcp"], ["udp"], ["tcp", "udp"], ["udp", "tcp"], ["tcp", "tcp"], [], ["tcp", "udp", "tcp"], ["tcp", "tcp", "tcp"], ["icmp"], ["TCP"], "tcp", ["tcp", "sctp"], [None], {}]
+
+
+def claim_bodies():
+    """Each way to spell the parts of an intercept and a destination, at their limits and past them."""
+    claim = {"service": "web", "protocols": ["tcp"], "addresses": ["a.b"], "ports": [[1, 65_535]]}
+    ask = {"identity": "ann", "protocol": "tcp", "address": "a.b", "port": 1}
+    yield from granted_network()
+    for address in READ_ADDRESSES + UNREAD_ADDRESSES + [None, 1, ["a"]]:
+        yield "SetIntercept", dict(claim, addresses=[address])
+        for wanted in sorted({address, address.lower(), address.replace("*", "x"), address.split("/")[0]}) if isinstance(address, str) else [address]:
+            yield "Pick", dict(ask, address=wanted)
+    lists = [[f"h{i}" for i in range(size)] for size in (0, 1, 32, 33)] + [["a"] * 32, ["a"] * 33, ["A", "a"], ["10.1.2.9/16", "10.1.0.0/16", "a"], ["a", 1], "a"]
+    for field, values in (("addresses", lists), ("ports", PORT_LISTS), ("protocols", PROTOCOL_LISTS), ("service", ["web", "zz", "", 1, "a b"])):
+        for value in values:
+            yield "SetIntercept", dict(claim, **{field: value})
+            for address, port in (("h0", 1), ("h31", 65_535), ("a", 22), ("10.1.2.3", 1), ("a.b", 32), ("a.b", 65_535)):
+                yield "Pick", dict(ask, address=address, port=port)
+                yield "Pick", dict(ask, address=address, port=port, protocol="udp")
+    for field, values in (("port", [0, 1, 65_535, 65_536, -1, "1", None]), ("protocol", ["tcp", "udp", "TCP", "", 1, ["tcp"]]), ("identity", ["ann", "zz", "", 1]), ("address", ["A.B", "*.b"])):
+        for value in values:
+            yield "Pick", dict(ask, **{field: value})
+    for fields in (ask, claim):
+        for field in fields:
+            yield "Pick" if fields is ask else "SetIntercept", {name: value for name, value in fields.items() if name != field}
+    for command, fields in (("ClearIntercept", {"service": "zz"}), ("ClearIntercept", {"service": "web"}), ("ClearIntercept", {"service": "web"}), ("Pick", ask)):
+        yield command, fields
+    for identity, service in (("ann", "web"), ("zz", "web"), ("ann", "zz"), ("zz", "zz"), ("", "zz")):
+        yield "ListClashes", {"identity": identity, "service": service}
+
+
+def full_claims():
+    """As many services as there may be, each of which claims as much as it may, and all of which clash."""
+    hosts = [f"*.{'n' * 63}.{'m' * 63}.{'o' * 63}.h{i:057}" for i in range(31)]
+    yield from granted_network()
+    for i in range(rules.LIMITS["service"] - 1):
+        name = f"s{i}" + "x" * (64 - len(f"s{i}"))
+        yield "CreateService", {"name": name}
+        ports = [[1 + (i + j) % 50, 40_000 + (7 * i + j) % 900] for j in range(31)] + [[22, 22]]
+        yield "SetIntercept", {"service": name, "protocols": ["udp", "tcp"][:1 + i % 2], "addresses": hosts[:i % 31] + [f"10.{i % 9}.0.0/{8 + i % 9}"], "ports": ports}
+        if i % 50 == 49:
+            for address, port in (("10.4.0.1", 22), ("10.4.0.1", 40_100), ("10.9.0.1", 60), ("a." + hosts[3][2:], 22), ("a.b." + hosts[30][2:], 51)):
+                yield "Pick", {"identity": "ann", "protocol": "udp", "address": address, "port": port}
+            yield "ListClashes", {"identity": "ann", "service": name}
+    yield "DeleteService", {"name": "s8" + "x" * 62}
+    yield "ListClashes", {"identity": "ann", "service": name}
+    yield "ShowCounts", {}
+
+
 def inputs():
     """The inputs, each with a word for it."""
     for noun, kind in (("Identity", "identity"), ("Service", "service"), ("Router", "router")):
@@ -159,3 +218,5 @@ def inputs():
     yield "circuit", full_circuits()
     yield "attribute", full_attributes()
     yield "kind and attributes", full_kind_and_attributes()
+    yield "parts of intercepts", claim_bodies()
+    yield "intercepts", full_claims()

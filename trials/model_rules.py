@@ -2,7 +2,7 @@
 
 import collections
 
-from model_bodies import PRECEDENCES, Refused
+from model_bodies import PRECEDENCES, Refused, address_of
 
 # The most records of each kind.
 LIMITS = {
@@ -24,12 +24,13 @@ Path = collections.namedtuple("Path", "cost links ties")
 
 
 class State:
-    """The records of each kind under their numbers, the next numbers, and the least router cost; and what became of circuits by the last command."""
+    """The records of each kind under their numbers, the next numbers, the least router cost, the intercepts under the numbers of their services, and the serial; and
+    what became of circuits by the last command."""
 
     def __init__(self):
         self.tables = {kind: {} for kind in LIMITS}
         self.next = dict.fromkeys(LIMITS, 1)
-        self.least_router_cost = 10
+        self.least_router_cost, self.intercepts, self.serial = 10, {}, 0
         self.found_paths, self.found_counts = {}, {}
         self.revoked, self.ended, self.rerouted = {}, [], {}
         # Whether settling changes nothing, as in every state that the controller itself comes to; and whether it revokes, as it did not before.
@@ -340,6 +341,49 @@ def is_better(state, entries, cost, number, entrance, precedence, total):
         return False
     reached = cost + above(entries[state.tables["terminator"][number]["router"]][entrance])
     return reached < (float("inf") if rank(state, number) < precedence else total)
+
+
+# Intercepts.
+
+
+def nearness(claimed, wanted):
+    """How near an address is to a destination; None where it does not have it."""
+    form, *parts = address_of(claimed)
+    to_form, *to = address_of(wanted)
+    if form == "range" and to_form == "range":
+        return 32 - parts[1] if parts[0] >> 32 - parts[1] == to[0] >> 32 - parts[1] else None
+    if form == "host" and claimed == wanted:
+        return 0
+    if form == "under" and to_form == "host" and wanted.endswith("." + parts[0]):
+        return wanted[:-len(parts[0]) - 1].count(".") + 1
+    return None
+
+
+def dialled(state, identity):
+    """The services that an identity may dial, ascending."""
+    return [number for number in sorted(state.tables["service"]) if count(state, "Dial", identity, number) > 0]
+
+
+def hits(state, identity, fields):
+    """The hits of a destination by the services that an identity may dial, in a form whose order is that in which they are picked: nearness, span, low, service, address."""
+    for service in dialled(state, identity):
+        claim = state.intercepts.get(service)
+        if claim is None or fields["protocol"] not in claim["protocols"]:
+            continue
+        for address in claim["addresses"]:
+            near = nearness(address, fields["address"])
+            if near is not None:
+                yield from ((near, high - low + 1, low, service, address) for low, high in claim["ports"] if low <= fields["port"] <= high)
+
+
+def clashes(state, identity, service):
+    """The services that an identity may dial and that clash with a service, ascending."""
+    may_dial, claims = dialled(state, identity), state.intercepts
+    if service not in may_dial or service not in claims:
+        return []
+    parts = ("protocols", "addresses", "ports")
+    return [other for other in may_dial if other != service and other in claims
+            and all(set(claims[service][part]) & set(claims[other][part]) for part in parts)]
 
 
 # Settling.

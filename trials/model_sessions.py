@@ -4,8 +4,6 @@ import struct
 
 import frames
 import model_bodies as bodies
-import model_commands as commands
-import model_rules as rules
 
 ADMIN, ROUTER, IDENTITY = 0, 1, 2
 
@@ -20,7 +18,7 @@ def is_permitted(role, own, command, fields):
         return command in ("ReportLatency", "ReportState", "CreateTerminator") and fields["router"] == own and fields.get("host") is None
     if command == "CreateTerminator":
         return fields["host"] == own
-    return command in ("CreateCircuit", "Explain", "ShowGrants", "ListServices") and fields["identity"] == own
+    return command in ("CreateCircuit", "Explain", "ShowGrants", "ListServices", "Pick", "ListClashes") and fields["identity"] == own
 
 
 class Session:
@@ -71,10 +69,10 @@ def opened(sessions, number, role, name):
 
 
 class Trace:
-    """The reading of a trace: the sessions, what was said and noted, and how it ended."""
+    """The reading of a trace by a machine that answers commands: the sessions, what was said and noted, and how it ended."""
 
-    def __init__(self, data):
-        self.state, self.sessions, self.said, self.notes, self.status = rules.State(), {}, b"", "", 0
+    def __init__(self, data, answer):
+        self.answer, self.sessions, self.said, self.notes, self.status = answer, {}, b"", "", 0
         at = 0
         while at < len(data):
             if data[at] not in (1, 2, 3):
@@ -102,7 +100,7 @@ class Trace:
             return True
         was_good = session.fault is None
         for sequence, content, body in session.feed(record[4:]):
-            _, succeeds, text = commands.answer(self.state, content, body, session.permits)
+            _, succeeds, text = self.answer(content, body, session.permits)
             self.said += bytes([4, number]) + bodies.reply_frame(sequence, session.replies, succeeds, text)
             session.replies += 1
         if was_good and session.fault is not None:

@@ -13,6 +13,10 @@ RAW_NUMBERS = """
 RAW_TEXTS = r"""
 "" "all" "#all" "@all" "\u00e9" "\ud83d\ude00" "\ud800" "\udc00\ud800" "\u0069\u0031" "\n" "\q" "\u00g0" " "i1/" "i1\/" "Required" "anyof" "AllOf" "AnyOf" "Bind" "failed"
 """.split() + ['"a b"', '"\t"', '"\x7f"', '"' + "n" * 64 + '"', '"' + "n" * 65 + '"']
+RAW_TEXTS += ['"' + text + '"' for text in """
+A Web.Example-1.com *.a *.A.b 10.1.2.3 10.1.2.3/32 10.1.2.3/31 10.1.2.9/16 0.0.0.0/0 255.255.255.255 1.2.3 256.1.1.1 1.2.3.4.5 01.2.3.4 10.1.2.3/33 10.1.2.3/08
+10.1.2.3/ 10.1.2.3/8/8 10.1.2.3/-1 1.2.3.4x 1.2.3.4.5a a..b .a a. . * *. *.*.a a.* *a.b *.10.0.0.1 *.1.2 a/8 _sip._tcp -a- tcp udp TCP Tcp icmp
+""".split()]
 RAW_LISTS = r"""
 [] {} ["#all"] ["#all","#all"] ["#all","@i1"] ["@i1","#all"] ["@i1","#a","@i1"] ["#ALL"] ["@all"] ["a","a","b"] ["@"] ["#"] ["i1"] [null] [1,1] [0] [[]] ["\ud800"]
 [{"router":1,"values":[0]}] [{"router":1,"values":[0],"zz":1}] [{"router":1}] [{"router":0,"values":[]}] [{"router":1,"values":[-1]}]
@@ -21,6 +25,11 @@ RAW_LISTS = r"""
 RAW_LISTS += ["[" + ",".join([entry] * size) + "]" for entry in ('"a"', '"#a"', '"#all"') for size in (64, 65)]
 RAW_LISTS += ["[" + ",".join(["1"] * size) + "]" for size in (255, 256, 257)]
 RAW_LISTS += ['[{"router":1,"values":' + listed + "}]" for listed in RAW_LISTS[-2:]]
+RAW_LISTS += r"""
+["tcp"] ["udp","tcp"] ["tcp","tcp"] ["tcp","tcp","tcp"] ["tcp","icmp"] ["TCP"] ["*.a"] ["10.1.2.9/16","10.1.0.0/16"] ["Web","web"] ["10.0.0.0/8","a","*.a"] ["1.2.3"]
+[[1,1]] [[1,65535]] [[0,1]] [[2,1]] [[1]] [[1,2,3]] [[1,65536]] [[1,"2"]] [[1.0,2]] [[22,22],[22,22]] [[22,22],[1,1024]] [1,2] [[]] [[1,null]] [[-1,1]]
+""".split()
+RAW_LISTS += ["[" + ",".join([entry] * size) + "]" for entry in ('"a"', '"10.0.0.0/8"', "[1,1]", '"tcp"') for size in (2, 3, 32, 33)]
 RAW_VALUES = ["null", "nul", "true", "false"] + RAW_NUMBERS + RAW_TEXTS + RAW_LISTS
 RAW_BODIES = [
     b"", b" ", b"{", b"{}", b"[]", b"null", b'"name"', b"{}{}", b"{},", b"{'name':1}", b'{"name"}', b'{"name":}', b"{,}", b'{"name":"i1",}', b'{"\\ud800":1}',

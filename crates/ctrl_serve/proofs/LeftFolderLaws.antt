@@ -3,8 +3,6 @@ use Rattle.std.specs.Prelude.{◌≤◌, ◌<◌, ◌==◌, ◌%◌, ◌-◌, co
 use Rattle.std.proofs.Common.{◌≡◌, ◌⊎◌, inl, inr, ℕ, zero, suc, ◌+◌, Bool, true, false, List, [], ◌∷◌, ◌++◌, length, take, None, Some, refl, sym, ap, ◌∙◌, subst, arith}
 use Rattle.std.specs.declared.option.Option.{Option}
 use Rattle.ziti_outside.specs.Images.{Image}
-use Rattle.ziti_outside.specs.Told.{Took}
-use Rattle.ziti_outside.proofs.Moves.{Took-none}
 use Rattle.ziti_outside.specs.Views.{Outside, Seen, Stopped}
 use Rattle.ziti_outside.specs.declared.desk.Part.{Part}
 use Rattle.ziti_outside.specs.declared.desk.Part.TheVariants.{Zero, One, Mark}
@@ -14,12 +12,11 @@ use Rattle.slot_files.specs.SwitchedSlots.{other_slot}
 use Rattle.row_store.specs.RewrittenStores.{compacted, compacted_size}
 use Rattle.row_store.specs.declared.bounds.StoreBounds.{StoreBounds}
 use Rattle.row_store.specs.OpenedStates.{byte_rows_of, IsStateless, OpensToState}
-use Rattle.channel_frame.specs.declared.frames.Frame.{Frame}
-use Rattle.ship_core.specs.Pieces.{written}
 use Rattle.ctrl_model.specs.declared.refusals.Refusal.TheVariants.{JournalFull, MarkFull}
 use Rattle.ctrl_model.specs.declared.replies.Reply.{Reply}
 use Rattle.ctrl_model.specs.declared.replies.Reply.TheVariants as reply
 use Rattle.ctrl_model.specs.State.{State, start}
+use Rattle.ctrl_model.specs.ValidState.{ValidState}
 use Rattle.model_laws.specs.JudgedCircuits.{AreGranted}
 use Rattle.ctrl_keep.specs.KeptBatches.{mark_at}
 use Rattle.ctrl_keep.specs.KeptMachine.{Machine, Place, compacted_place}
@@ -37,7 +34,7 @@ use Rattle.ctrl_serve.specs.declared.command_line.Form.TheVariants.{Dry, Replay,
 use Rattle.ctrl_serve.specs.CommandLine.{form_of}
 use Rattle.ctrl_serve.proofs.AdviseWords.{advise_words}
 use Rattle.ctrl_serve.specs.FolderWords.{compaction, Compacts}
-use Rattle.ctrl_serve.specs.ShipWords.{Ships}
+use Rattle.ctrl_serve.specs.ShipWords.{SaysOf, Ships}
 use Rattle.ctrl_serve.specs.FrameAnswer.{last_machine}
 use Rattle.ctrl_serve.specs.Headline.{folder_bounds, taking_of, IsLeftAlone, IsUnopened, Refuses, Replays, Runs, StaysClosed}
 use Rattle.ctrl_serve.specs.LeftFolders.{HoldsAlone, HoldsGranted, KeepsAllFrames}
@@ -275,15 +272,12 @@ stays_shut o bounds words (Some (Ship from)) source source_now desk desk_now ask
       | inr on ↦ absurd (on.notes.2 (told from refl))
     ]
 
--- Of such a folder whole frames were said.
-nothing_said : (before now : Option (List ℕ)) → now ≡ before → Took before now (written [])
-nothing_said before now e = subst (λ (n : Option (List ℕ)). Took before n (written [])) (sym e) (Took-none before)
-
+-- Of such a folder nothing was said, or whole frames of what it was found to open to.
 pub frames_said : {D : Type 0} {seen : D → Seen} {stopped : D → Stopped} (tells : Bool) (from : ℕ) (desk desk_now : D)
     → IsUnopened None tells seen stopped desk desk_now Damaged ⊎ Ships from tells (seen desk) (seen desk_now) Damaged
-    → (frames : List Frame) × Took (seen desk).said (seen desk_now).said (written frames)
-frames_said {seen = seen} tells from desk desk_now (inl closed) = ([], nothing_said (seen desk).said (seen desk_now).said closed.says_nothing)
-frames_said tells from desk desk_now (inr on) = (on.frames.1.0, on.frames.1.3)
+    → ((seen desk_now).said ≡ (seen desk).said) ⊎ ((s : State) × ValidState s × SaysOf from s Damaged (seen desk).said (seen desk_now).said)
+frames_said tells from desk desk_now (inl closed) = inl closed.says_nothing
+frames_said tells from desk desk_now (inr on) = inr (on.state, on.valid, on.frames)
 
 -- A told folder has a mark then, so it was left alone.
 not_cut : (A : Type 0) (B : State → Type 0) → A ⊎ ((s : State) × ((Damaged ≡ DiskFault) × B s)) → A

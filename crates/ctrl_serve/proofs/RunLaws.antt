@@ -476,7 +476,7 @@ one_serial form m n is e = cc
 shipped_statuses : (tells : Bool) (from : ℕ) (before now : Seen) (status : Status) → Ships from tells before now status → (status ≡ Usage → ⊥) × (status ≡ ReadFault → ⊥)
 shipped_statuses tells from before now status ships =
     let not = ends_otherwise (λ (u : Status). Ships from tells before now u) status ships in
-    (not Usage (λ t. t.frames.1), not ReadFault (λ t. t.frames.1))
+    (not Usage (λ t. t.frames.said), not ReadFault (λ t. t.frames.said))
 
 ship_statuses : {D : Type 0} {seen : D → Seen} {stopped : D → Stopped}
     (tells : Bool) (from : ℕ) (desk desk_now : D) (status : Status) → IsUnopened None tells seen stopped desk desk_now status ⊎ Ships from tells (seen desk) (seen desk_now) status
@@ -516,7 +516,7 @@ ships_calmly : {D : Type 0} {seen : D → Seen} {stopped : D → Stopped}
     (tells : Bool) (from : ℕ) (desk desk_now : D) (status : Status) → IsUnopened None tells seen stopped desk desk_now status ⊎ Ships from tells (seen desk) (seen desk_now) status
     → (status ≡ WriteFault → ⊥) → (status ≡ DiskFault → ⊥) → (status ≡ Done) ⊎ (status ≡ Damaged) ⊎ (status ≡ NoMemory)
 ships_calmly {seen = seen} tells from desk desk_now status (inl closed) write disk = closed_calmly tells (seen desk) (seen desk_now) status closed.why disk
-ships_calmly tells from desk desk_now status (inr on) write disk = shipped_calmly _ _ on.frames.0 status on.frames.1 write disk
+ships_calmly tells from desk desk_now status (inr on) write disk = shipped_calmly _ _ on.frames.all status on.frames.said write disk
 
 pub ship_runs : {S D : Type 0} (o : Outside S D) (bounds : Bounds) (words : List (List ℕ)) (form : Option command.Form) (number : ℕ) (source : S) (desk desk_now : D) (status : Status) → form ≡ Some (Ship number)
     → IsUnopened None o.tells o.seen o.stopped desk desk_now status

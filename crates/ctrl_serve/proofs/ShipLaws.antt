@@ -5,21 +5,19 @@ use Rattle.std.proofs.lemmas.Grind.{flat_map-append}
 use Rattle.std.specs.declared.option.Option.{Option}
 use Rattle.ziti_outside.specs.Causes.{HasCause}
 use Rattle.ziti_outside.specs.Told.{Took, TookFront}
-use Rattle.ziti_outside.specs.Untouched.{OnlyNotes, OnlyReads}
+use Rattle.ziti_outside.specs.Untouched.{OnlyNotes}
 use Rattle.ziti_outside.specs.Views.{Seen, Stopped}
 use Rattle.ziti_outside.proofs.MomentLaws.{Elapses-weaker}
 use Rattle.channel_frame.specs.declared.frames.Frame.{Frame}
 use Rattle.channel_frame.specs.FrameSpelling.{spelling}
 use Rattle.ctrl_model.specs.declared.formats.Format.{Format}
-use Rattle.ctrl_model.specs.State.{State}
 use Rattle.slot_files.specs.FolderImage.{Stands}
-use Rattle.row_store.specs.OpenedStates.{OpensToState}
 use Rattle.row_store.proofs.OneStates.{stateless_opens}
 use Rattle.ship_core.specs.declared.faults.ShipFault.{ShipFault}
 use Rattle.ship_core.specs.declared.faults.ShipFault.TheVariants as ship
-use Rattle.ship_core.specs.Faults.{disk_failure, write_failure, Judges}
+use Rattle.ship_core.specs.Faults.{disk_failure, write_failure, Judges, IsUnfound}
 use Rattle.ship_core.specs.Pieces.{written}
-use Rattle.ship_core.specs.SaidFrames.{OnlyShips, SaysFrames}
+use Rattle.ship_core.specs.SaidFrames.{OnlyShips, SaysFrames, ShipsJudged}
 use Rattle.ship_core.specs.Shipping.{shipped}
 use Rattle.ctrl_keep.specs.declared.faults.KeepFault.TheVariants as keep
 use Rattle.run_notes.specs.declared.status.Status.{Status}
@@ -74,26 +72,43 @@ said_behind {seen = seen} {old = old} fault all status now is quiet s =
 -- What is known of a shipping behind which notes were written.
 pub record IsShippedBy {D : Type 0} (from : ℕ) (tells : Bool) (seen : D → Seen) (stopped : D → Stopped) (fault : Option ShipFault) (old new : D) : Type 0 where
   pub says : IsTrue tells → (format : Format) (batches : List (List ℕ)) → Stands format (seen old).reads batches → SaysFrames seen stopped old new fault (shipped from format batches)
-  pub frames : (all : List Frame) × SaysFrames seen stopped old new fault all
   pub judges : IsTrue tells → Judges (seen old).reads fault
-  pub opens : OnlyReads seen stopped old new ⊎ (IsTrue tells → (s : State) × OpensToState (seen old).reads s)
+  pub opens : IsUnfound tells seen stopped old new fault ⊎ ShipsJudged tells seen stopped from old new fault
   pub alone : OnlyShips seen stopped old new
 
 ships_by : {D : Type 0} {seen : D → Seen} {stopped : D → Stopped} {old mid new : D} (from : ℕ) (tells : Bool) (fault : Option ShipFault) (status : Status) → IsShippedBy from tells seen stopped fault old mid
-    → status ≡ status_of fault → (seen new).said ≡ (seen mid).said → (IsTrue tells → (s : State) × OpensToState (seen old).reads s) → NotesShipped status tells (seen old) (seen new)
+    → status ≡ status_of fault → (seen new).said ≡ (seen mid).said → ShipsJudged tells seen stopped from old mid fault → NotesShipped status tells (seen old) (seen new)
     → Ships from tells (seen old) (seen new) status
-ships_by {seen = seen} {new = new} from tells fault status by is quiet opens notes = record {
-  opens = opens;
+ships_by {seen = seen} {new = new} from tells fault status by is quiet judged notes = record {
+  state = judged.state;
+  valid = judged.valid;
+  opens = judged.opens;
   ships = λ told format batches stands. said_behind fault (shipped from format batches) status (seen new).said is quiet (by.says told format batches stands);
-  frames = (by.frames.0, said_behind fault by.frames.0 status (seen new).said is quiet by.frames.1);
+  frames = record {
+    format = judged.format;
+    has = judged.has;
+    all = judged.all;
+    shipped = judged.shipped;
+    said = said_behind fault judged.all status (seen new).said is quiet judged.says;
+  };
   notes = notes;
 }
+
+-- Where all was said the folder was judged first.
+judged_done : {A : Type 0} → ⊥ ⊎ A → A
+judged_done (inl none) = absurd none
+judged_done (inr a) = a
+
+-- And so it was where a say failed.
+judged_said : {A C : Type 0} → (⊥ × A) ⊎ C → C
+judged_said (inl none) = absurd none.0
+judged_said (inr c) = c
 
 -- All was shipped.
 pub shipped_done : {D : Type 0} {seen : D → Seen} {stopped : D → Stopped} {old new : D} (from : ℕ) (tells : Bool) → IsShippedBy from tells seen stopped None old new
     → Ships from tells (seen old) (seen new) Done
 shipped_done {seen = seen} {old = old} {new = new} from tells by =
-    ships_by from tells None Done by refl refl by.judges (notes_from [] (seen old) (seen new) (seen new) by.alone.notes by.alone.failed_notes (notes_none (seen new)))
+    ships_by from tells None Done by refl refl (judged_done by.opens) (notes_from [] (seen old) (seen new) (seen new) by.alone.notes by.alone.failed_notes (notes_none (seen new)))
 
 -- The notes of a status that is told.
 noted_status : (tells : Bool) (before now : Seen) (is status : Status) → status ≡ is → NotesShipped is tells before now → NotesShipped status tells before now
@@ -105,28 +120,28 @@ pub unshipped : {D : Type 0} {seen : D → Seen} {stopped : D → Stopped} (from
     → IsUnopened None tells seen stopped old new status ⊎ Ships from tells (seen old) (seen new) status
 unshipped {seen = seen} {stopped = stopped} from tells ship.Disk old mid new status by notes more told =
     elim by.opens as (λ _. IsUnopened None tells seen stopped old new status ⊎ Ships from tells (seen old) (seen new) status) [
-      | inl reads ↦ inl (unopened None tells keep.Disk old mid new status (peeks_none tells keep.Disk old mid reads tt) notes more told)
-      | inr opens ↦ inr (ships_by from tells (Some ship.Disk) status by told.0 notes.replies opens
+      | inl closed ↦ inl (unopened None tells keep.Disk old mid new status (peeks_none tells keep.Disk old mid closed.1 tt) notes more told)
+      | inr judged ↦ inr (ships_by from tells (Some ship.Disk) status by told.0 notes.replies judged
           (noted_status tells (seen old) (seen new) DiskFault status told.0 (notes_from _ (seen old) (seen mid) (seen new) by.alone.notes by.alone.failed_notes told.1)))
     ]
 unshipped {seen = seen} from tells ship.Write old mid new status by notes more told =
-    inr (ships_by from tells (Some ship.Write) status by told.0 notes.replies by.judges
+    inr (ships_by from tells (Some ship.Write) status by told.0 notes.replies (judged_said by.opens)
     (noted_status tells (seen old) (seen new) WriteFault status told.0 (notes_from _ (seen old) (seen mid) (seen new) by.alone.notes by.alone.failed_notes told.1)))
 unshipped {seen = seen} {stopped = stopped} from tells (ship.Damaged part at) old mid new status by notes more told =
     elim by.opens as (λ _. IsUnopened None tells seen stopped old new status ⊎ Ships from tells (seen old) (seen new) status) [
-      | inl reads ↦ inl (unopened None tells (keep.Damaged part at) old mid new status (peeks_none tells (keep.Damaged part at) old mid reads by.judges) notes more told)
-      | inr opens ↦ inr (ships_by from tells (Some (ship.Damaged part at)) status by told.0 notes.replies opens
+      | inl closed ↦ inl (unopened None tells (keep.Damaged part at) old mid new status (peeks_none tells (keep.Damaged part at) old mid closed.1 by.judges) notes more told)
+      | inr judged ↦ inr (ships_by from tells (Some (ship.Damaged part at)) status by told.0 notes.replies judged
           (noted_status tells (seen old) (seen new) Damaged status told.0 (
             part,
             at,
-            λ yes. stateless_opens (seen old).reads part at (opens yes).0 (by.judges yes) (opens yes).1,
+            λ yes. stateless_opens (seen old).reads part at judged.state (by.judges yes) (judged.opens yes),
             notes_from _ (seen old) (seen mid) (seen new) by.alone.notes by.alone.failed_notes told.1,
           )))
     ]
 unshipped {seen = seen} {stopped = stopped} from tells ship.NoMemory old mid new status by notes more told =
     elim by.opens as (λ _. IsUnopened None tells seen stopped old new status ⊎ Ships from tells (seen old) (seen new) status) [
-      | inl reads ↦ inl (unopened None tells keep.NoMemory old mid new status (peeks_none tells keep.NoMemory old mid reads tt) notes more told)
-      | inr opens ↦ inr (ships_by from tells (Some ship.NoMemory) status by told.0 notes.replies opens
+      | inl closed ↦ inl (unopened None tells keep.NoMemory old mid new status (peeks_none tells keep.NoMemory old mid closed.1 tt) notes more told)
+      | inr judged ↦ inr (ships_by from tells (Some ship.NoMemory) status by told.0 notes.replies judged
           (noted_status tells (seen old) (seen new) NoMemory status told.0 (notes_from _ (seen old) (seen mid) (seen new) by.alone.notes by.alone.failed_notes told.1)))
     ]
 

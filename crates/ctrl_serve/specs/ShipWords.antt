@@ -7,10 +7,12 @@ use Rattle.ziti_outside.specs.Views.{Seen}
 use Rattle.channel_frame.specs.declared.frames.Frame.{Frame}
 use Rattle.ctrl_model.specs.declared.formats.Format.{Format}
 use Rattle.ctrl_model.specs.State.{State}
+use Rattle.ctrl_model.specs.ValidState.{ValidState}
+use Rattle.row_codec.specs.StateRows.{HasRows}
 use Rattle.slot_files.specs.FolderImage.{Stands}
-use Rattle.row_store.specs.OpenedStates.{OpensToState}
+use Rattle.row_store.specs.OpenedStates.{byte_rows_of, OpensToState}
 use Rattle.ship_core.specs.Pieces.{written}
-use Rattle.ship_core.specs.Shipping.{shipped}
+use Rattle.ship_core.specs.Shipping.{shipped, AreShippedOf}
 use Rattle.run_notes.specs.declared.status.Status.{Status}
 use Rattle.run_notes.specs.declared.status.Status.TheVariants.{Done, WriteFault, DiskFault, Damaged, NoMemory}
 use Rattle.run_notes.specs.Notes.{damaged_note, status_lines}
@@ -35,10 +37,21 @@ abbrev pub NotesShipped : Status → (tells : Bool) → (before now : Seen) → 
 NotesShipped Damaged tells before now = (part : Part) × (at : ℕ) × (IsTrue tells → ⊥) × NotesLines (damaged_note part at) before now
 NotesShipped status tells before now = NotesLines (status_lines [] status) before now
 
--- A run of `ship N` on a folder that opens to a state: it says what is shipped from N on of the batches for which the folder stands. Of a
--- folder that is not told it says frames.
+-- What a run that ships from a serial on has said at a status of a folder that was found to have the rows of a state in a format, whether the
+-- folder is told or not: frames that are shipped of one with these rows. In the second format they are those of some batches, each spelled.
+pub record SaysOf (from : ℕ) (state : State) (status : Status) (before now : Option (List ℕ)) : Type 0 where
+  pub format : Format
+  pub has : HasRows format state
+  pub all : List Frame
+  pub shipped : AreShippedOf from format (byte_rows_of format state) all
+  pub said : SaysShipped status before now all
+
+-- A run of `ship N` on a folder that opens to a state, which is valid: it says what is shipped from N on of the batches for which the folder
+-- stands. Of a folder that is not told, too, a valid state was found there, and then the frames of batches are said.
 pub record Ships (from : ℕ) (tells : Bool) (before now : Seen) (status : Status) : Type 0 where
-  pub opens : IsTrue tells → (s : State) × OpensToState before.reads s
+  pub state : State
+  pub valid : ValidState state
+  pub opens : IsTrue tells → OpensToState before.reads state
   pub ships : IsTrue tells → (format : Format) (batches : List (List ℕ)) → Stands format before.reads batches → SaysShipped status before.said now.said (shipped from format batches)
-  pub frames : (all : List Frame) × SaysShipped status before.said now.said all
+  pub frames : SaysOf from state status before.said now.said
   pub notes : NotesShipped status tells before now

@@ -4,6 +4,7 @@ ghost use Rattle.channel_frame.specs.declared.frames.Frame.{Frame};
 ghost use Rattle.channel_frame.specs.StreamReading.{Reads, fault_of, frames_of, rest_of};
 ghost use Rattle.ctrl_model.specs.declared.kinds.Who.TheVariants.{Admin};
 ghost use Rattle.ctrl_model.specs.State.{State};
+ghost use Rattle.ctrl_model.specs.ValidState.{ValidState};
 ghost use Rattle.ctrl_keep.specs.KeptMachine.{Machine};
 ghost use Rattle.policy_advisor.specs.Reports.{report_of};
 ghost use Rattle.ctrl_model.specs.declared.formats.Format.{Format};
@@ -36,6 +37,7 @@ ghost use Rattle.ctrl_serve.specs.Headline.{Serves, Replays, Runs, Taking, takin
 ghost use Rattle.ctrl_serve.specs.LeftFolders.{HoldsAlone, HoldsGranted, KeepsAllFrames};
 ghost use Rattle.ctrl_serve.specs.UncompactedFolders.{ask_for_compact, CompactsNothing, LeavesOtherSlot};
 ghost use Rattle.ctrl_serve.specs.Loads.{counts_line, IsSaid, SaysOneLine};
+ghost use Rattle.ctrl_serve.specs.ShipWords.{SaysOf};
 ghost use Rattle.ctrl_serve.specs.RunStops.{StopFinds, HoldsFirst};
 ghost use Rattle.ctrl_serve.specs.OpenedFolders.{OpensTo};
 ghost use Rattle.ctrl_serve.specs.CommandLine.{form_of, number_below};
@@ -259,7 +261,8 @@ pub fn done_compacts_all<S: Source, D: Desk>()
         → IsTrue D.tells → OpensToState (D.seen desk).reads s → HoldsAlone s (D.seen desk).reads (D.seen desk_now).reads (D.stopped desk_now).images }
 {}
 
-/// What `Damaged` says under any words: nothing was taken, and nothing said, unless the folder is not told and was shipped: then whole frames were.
+/// What `Damaged` says under any words: nothing was taken, and nothing said, unless the folder is not told and was shipped: then whole frames were,
+/// those of batches that can be spelled, behind a valid state that the folder was found to have.
 /// A told folder was left alone, every part of it and all that a stop may leave at any moment; and it opens to no state, at the place that the
 /// note names.
 pub fn damage_changes_nothing<S: Source, D: Desk>()
@@ -271,7 +274,7 @@ pub fn damage_changes_nothing<S: Source, D: Desk>()
         → ((from : ℕ) → form_of words ≡ Some (Ship from) → IsTrue D.tells) → (D.seen desk_now).said ≡ (D.seen desk).said }
     ensures shipped { (bounds : Bounds) (words : List (List ℕ)) (from : ℕ) (source source_now : S) (desk desk_now : D)
         → Runs (record { left = S.left; faults = S.faults; tells = D.tells; seen = D.seen; stopped = D.stopped }) bounds words (Some (Ship from)) source source_now desk desk_now Damaged
-        → (frames : List Frame) × Took (D.seen desk).said (D.seen desk_now).said (written frames) }
+        → ((D.seen desk_now).said ≡ (D.seen desk).said) ⊎ ((s : State) × ValidState s × SaysOf from s Damaged (D.seen desk).said (D.seen desk_now).said) }
     ensures folder { (bounds : Bounds) (words : List (List ℕ)) (source source_now : S) (desk desk_now : D)
         → Runs (record { left = S.left; faults = S.faults; tells = D.tells; seen = D.seen; stopped = D.stopped }) bounds words (form_of words) source source_now desk desk_now Damaged
         → IsTrue D.tells → IsLeftAlone D.seen D.stopped desk desk_now }

@@ -7,6 +7,7 @@ pub mod LineCuts
 pub mod LineTurns
 pub mod FrameLines
 pub mod TextTelling
+pub mod TellingSoFar
 pub mod FrameTurns
 pub mod FaultTexts
 pub mod WorkedLines

@@ -1,5 +1,7 @@
-ghost use Rattle.std.specs.Prelude.{◌≡◌, IfOk};
+ghost use Rattle.std.specs.Prelude.{◌≡◌, ◌+◌, ◌++◌, ◌≤◌, [], List, ℕ, IfOk, OnOk, OnErr, None, Some, drop, length};
 ghost use Rattle.frame_lines.specs.TextTelling.{tail_fault, text_told, fault_told};
+ghost use Rattle.frame_lines.specs.TellingSoFar.{Follows, end_fault};
+ghost use Rattle.frame_lines.specs.FrameTurns.{TurnsOn};
 
 use crate::telling::put_line;
 use crate::told::{DecodeCause, DecodeFault};
@@ -15,6 +17,48 @@ pub struct Decoded {
     pub fault: Option<DecodeFault>,
 }
 
+/// What a turn over some bytes told: the lines of their whole frames, how many bytes these have, the number and the place of the frame that
+/// comes next, and what ended the telling, if something did.
+#[derive(Debug, Drop)]
+pub struct Turned {
+    lines: Bytes,
+    used: usize,
+    number: u64,
+    at: u64,
+    fault: Option<DecodeFault>,
+}
+
+/// Frames whose bytes come in pieces, told as lines: each line comes with the piece with which its frame is whole.
+#[derive(Debug, Drop)]
+pub struct FrameTelling {
+    // The bytes that are no whole frame as yet.
+    held: Vec<u8>,
+    // The number and the place of the frame that comes next.
+    number: u64,
+    at: u64,
+    // What ended the telling.
+    fault: Option<DecodeFault>,
+}
+
+/// The sum of two counts. One that has no room is in want of memory.
+pub fn counted_on(count: u64, more: u64) -> Result<u64, AllocError>
+    ensures { IfOk result (λ sum. sum ≡ count + more) }
+{
+    match count.checked_add(more) {
+        Some(sum) => Ok(sum),
+        None => Err(AllocError),
+    }
+}
+
+/// The place behind some bytes more, which are there.
+pub fn past(used: usize, more: u64, bytes: &[u8]) -> usize
+    requires { used + more ≤ length bytes.now }
+    ensures { result ≡ used + more }
+{
+    let _len = bytes.len();
+    used + more as usize
+}
+
 // The fault of a frame of this number that is cut off at a place, where any of it is there.
 fn unfinished(frame: u64, rest: &[u8], at: u64) -> Option<DecodeFault>
     ensures { result ≡ tail_fault None rest.now at frame }
@@ -28,19 +72,65 @@ fn unfinished(frame: u64, rest: &[u8], at: u64) -> Option<DecodeFault>
     })
 }
 
-fn ended(out: Vec<u8>, fault: Option<DecodeFault>) -> Decoded
-    ensures { result ≡ record { text = out.items; fault = fault } }
+// The fault at the end of all bytes.
+fn end_fault(fault: Option<DecodeFault>, rest: &[u8], at: u64, number: u64) -> Option<DecodeFault>
+    ensures { result ≡ end_fault fault rest.now at number }
 {
-    Decoded {
-        text: Bytes::of(out),
-        fault,
+    match fault {
+        Some(fault) => Some(fault),
+        None => unfinished(number, rest, at),
     }
 }
 
-fn fault_at(frame: u64, cause: DecodeCause) -> Option<DecodeFault>
-    ensures { result ≡ Some (record { frame = frame; cause = cause }) }
+// The turn that was ended by a fault of the frame that comes next.
+fn ended(out: Vec<u8>, used: usize, number: u64, at: u64, cause: DecodeCause) -> Turned
+    ensures { result ≡ record { lines = out.items; used = used; number = number; at = at; fault = Some (record { frame = number; cause = cause }) } }
 {
-    Some(DecodeFault { frame, cause })
+    Turned {
+        lines: Bytes::of(out),
+        used,
+        number,
+        at,
+        fault: Some(DecodeFault {
+            frame: number,
+            cause,
+        }),
+    }
+}
+
+// Tells the whole frames at the front of some bytes, whose first one has this number and stands at this place, up to one that no line tells.
+fn tell_whole(alloc: Global, number: u64, at: u64, bytes: &[u8]) -> Result<Turned, AllocError>
+    ensures turns { IfOk result (λ t. TurnsOn number at bytes.now t) }
+    ensures within { IfOk result (λ t. t.used ≤ length bytes.now) }
+{
+    let mut out = Vec::new(alloc);
+    let mut next = number;
+    let mut used = 0usize;
+    'frames: loop {
+        let (_, rest) = bytes.split_at(used);
+        let place = counted_on(at, used as u64)?;
+        match front_of(alloc, rest)? {
+            Front::Whole(frame, len) => {
+                let put = put_line(alloc, &mut out, &frame)?;
+                if let Err(cause) = put {
+                    return Ok(ended(out, used, next, place, DecodeCause::Untold(cause)));
+                }
+                let then = counted_on(next, 1)?;
+                next = then;
+                used = past(used, len, bytes);
+            }
+            Front::Short => return Ok(Turned {
+                lines: Bytes::of(out),
+                used,
+                number: next,
+                at: place,
+                fault: None,
+            }),
+            Front::Bad(fault) => {
+                return Ok(ended(out, used, next, place, DecodeCause::Bad(fault, place)));
+            }
+        }
+    }
 }
 
 /// The lines that tell the frames of some bytes, a line for each frame, up to the first that no line tells or that is no whole frame.
@@ -48,25 +138,69 @@ pub fn decode(alloc: Global, bytes: &[u8]) -> Result<Decoded, AllocError>
     ensures text { IfOk result (λ d. d.text ≡ text_told bytes.now) }
     ensures fault { IfOk result (λ d. d.fault ≡ fault_told bytes.now) }
 {
-    let mut out = Vec::new(alloc);
-    let mut number = 1u64;
-    let mut rest = bytes;
-    'frames: loop {
-        let at = (bytes.len() - rest.len()) as u64;
-        match front_of(alloc, rest)? {
-            Front::Whole(frame, len) => {
-                let put = put_line(alloc, &mut out, &frame)?;
-                if let Err(cause) = put {
-                    return Ok(ended(out, fault_at(number, DecodeCause::Untold(cause))));
-                }
-                let (_, after) = rest.split_at(len as usize);
-                number += 1;
-                rest = after;
-            }
-            Front::Short => return Ok(ended(out, unfinished(number, rest, at))),
-            Front::Bad(fault) => {
-                return Ok(ended(out, fault_at(number, DecodeCause::Bad(fault, at))));
+    let told = tell_whole(alloc, 1, 0, bytes)?;
+    let (_, rest) = bytes.split_at(told.used);
+    let fault = end_fault(told.fault, rest, told.at, told.number);
+    Ok(Decoded {
+        text: told.lines,
+        fault,
+    })
+}
+
+impl FrameTelling {
+    /// The telling of frames of which no byte has come.
+    pub fn new(alloc: Global) -> FrameTelling
+        ensures { Follows [] result }
+    {
+        FrameTelling {
+            held: Vec::new(alloc),
+            number: 1,
+            at: 0,
+            fault: None,
+        }
+    }
+
+    // Keeps what a turn over the bytes held left of them, and answers its lines.
+    fn keep(&mut self, turned: Turned) -> Bytes
+        requires { turned.used ≤ length self.old.held.items }
+        ensures lines { result ≡ turned.lines }
+        ensures kept { (self.new.held.items ≡ drop turned.used self.old.held.items) × (self.new.number ≡ turned.number)
+            × (self.new.at ≡ turned.at) × (self.new.fault ≡ turned.fault) }
+    {
+        self.held.drain(..turned.used);
+        self.number = turned.number;
+        self.at = turned.at;
+        self.fault = turned.fault;
+        turned.lines
+    }
+
+    /// A piece comes. Answers the lines of the frames that are whole with it: behind those of all bytes before, they make up the lines of all
+    /// bytes so far.
+    ///
+    /// Where memory was wanting, the piece has not come.
+    pub fn feed(&mut self, alloc: Global, piece: &[u8]) -> Result<Bytes, AllocError>
+        ensures lines { IfOk result (λ lines. (came : List ℕ) → Follows came self.old → text_told (came ++ piece.now) ≡ text_told came ++ lines) }
+        ensures ok { OnOk result ((came : List ℕ) → Follows came self.old → Follows (came ++ piece.now) self.new) }
+        ensures err { OnErr result ((came : List ℕ) → Follows came self.old → Follows came self.new) }
+    {
+        if self.fault.is_some() {
+            return Ok(Bytes::of(Vec::new(alloc)));
+        }
+        let before = self.held.len();
+        self.held.extend_from_slice(piece)?;
+        match tell_whole(alloc, self.number, self.at, self.held.as_slice()) {
+            Ok(turned) => Ok(self.keep(turned)),
+            Err(AllocError) => {
+                self.held.truncate(before);
+                Err(AllocError)
             }
         }
+    }
+
+    /// The fault that the bytes that came have where no more come, if they have one.
+    pub fn fault(&self) -> Option<DecodeFault>
+        ensures { (came : List ℕ) → Follows came self.now → result ≡ fault_told came }
+    {
+        end_fault(self.fault, self.held.as_slice(), self.at, self.number)
     }
 }

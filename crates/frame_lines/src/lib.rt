@@ -17,7 +17,7 @@ mod worked;
 
 pub use checking::{Checked, check};
 pub use cutting::{cut_line, cut_word};
-pub use decoding::{Decoded, decode};
+pub use decoding::{Decoded, FrameTelling, counted_on, decode, past};
 pub use encoding::{Encoded, encode, put_frame};
 pub use laws::{
     each_fault_is_told_by_its_line, faultless_where_each_line_says,

@@ -1,1 +1,2 @@
 pub mod RowRecords
+pub mod CopiedFields

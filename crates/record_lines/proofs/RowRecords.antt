@@ -1,4 +1,4 @@
--- The records of a state that rows give are those that the rows are, in their order.
+-- The records and the intercepts of a state that rows give are those that the rows are, in their order.
 use Rattle.std.proofs.Common.{◌≡◌, ℕ, ◌==◌, nat_le, Bool, true, false, cond, List, [], ◌∷◌, ◌++◌, flat_map, Option, None, Some, option_map, refl, sym, ◌∙◌, ap, append-nil, append_assoc}
 use Rattle.std.specs.Prelude.{option_and_then}
 use Rattle.std.specs.Option.{option_map_or, option_or, unwrap_or}
@@ -15,9 +15,11 @@ use Rattle.row_codec.specs.RowKeys.{kind_number}
 use Rattle.state_building.specs.RowForms.{by_row}
 use Rattle.state_building.specs.JoinedRecords.{joined}
 use Rattle.state_building.specs.BuiltStates.{with_row, built, next_in, with_nexts, state_in}
-use Rattle.record_lines.specs.RecordLines.{line_of, lines_of}
+use Rattle.record_lines.specs.declared.listing.Listed.{Listed}
+use Rattle.record_lines.specs.declared.listing.Listed.TheVariants as listed
+use Rattle.record_lines.specs.RecordLines.{entry_line, intercept_line, line_of, lines_of}
 use Rattle.record_lines.specs.RecordNames.{name_of, router_behind}
-use Rattle.record_lines.specs.RowTexts.{same_kind, name_in, name_said, name_among, ends_said, ends_among, behind, line_in}
+use Rattle.record_lines.specs.RowTexts.{same_kind, name_in, name_said, name_among, ends_said, ends_among, behind, is_entity, is_policy, is_way, is_use, is_of, line_where, row_line}
 
 -- ---- the records of a kind
 
@@ -98,6 +100,30 @@ nexts_keep k nexts s = refl
 pub table_rows : (k : Kind) (rows : List Row) → (table k (state_in rows)).rows ≡ records_in k rows
 table_rows k rows =
     nexts_keep k (next_in rows) (built rows start) ∙ built_rows k rows start ∙ ap (λ (l : List (ℕ × Record k)). l ++ records_in k rows) (empty_rows k)
+
+-- ---- the intercepts
+
+-- the intercept that a row says
+abbrev pub intercept_in : Row → List (ℕ × Intercept)
+intercept_in x = by_row (record { next = λ j n. []; setting = λ cost. []; one = λ k n r. []; count = λ r a b c. []; intercept = λ n i. (n, i) ∷ []; serial = λ n. [] }) x
+
+-- the intercepts that rows say
+abbrev pub intercepts_in : List Row → List (ℕ × Intercept)
+intercepts_in rows = flat_map intercept_in rows
+
+claim_joins : (x : Row) (s : State) → (with_row x s).intercepts ≡ s.intercepts ++ intercept_in x
+claim_joins (row.Intercept n i) s = refl
+claim_joins x s = sym (append-nil s.intercepts)
+
+built_claims : (rows : List Row) (s : State) → (built rows s).intercepts ≡ s.intercepts ++ intercepts_in rows
+built_claims [] s = sym (append-nil s.intercepts)
+built_claims (x ∷ xs) s =
+    built_claims xs (with_row x s) ∙ ap (λ (l : List (ℕ × Intercept)). l ++ intercepts_in xs) (claim_joins x s)
+    ∙ append_assoc s.intercepts (intercept_in x) (intercepts_in xs)
+
+-- the intercepts of the state that rows give are those that the rows say
+pub claims_of_rows : (rows : List Row) → (state_in rows).intercepts ≡ intercepts_in rows
+claims_of_rows rows = built_claims rows start
 
 -- ---- the names of records
 
@@ -194,7 +220,7 @@ line_step kind.Attribute kind.Attribute h s m r rest later is = absurd (cc)
 line_step k j h s m r rest later is = is
 
 line_row : (k : Kind) (s : State) (x : Row) (rest : List (ℕ × Record k)) (later : List ℕ) → later ≡ flat_map (line_of k s) rest
-    → line_in k s x ++ later ≡ flat_map (line_of k s) (record_in k x ++ rest)
+    → line_where (is_of (listed.Records k)) s x ++ later ≡ flat_map (line_of k s) (record_in k x ++ rest)
 line_row k s (row.Identity m name attributes) rest later is = line_step k kind.Identity refl s m.0 _ rest later is
 line_row k s (row.Service m name attributes) rest later is = line_step k kind.Service refl s m.0 _ rest later is
 line_row k s (row.Router m name attributes cost through connected) rest later is = line_step k kind.Router refl s m.0 _ rest later is
@@ -206,11 +232,37 @@ line_row k s (row.Terminator m service router host instance cost precedence) res
 line_row k s (row.Circuit m identity service terminator ingress links) rest later is = line_step k kind.Circuit refl s m.0 _ rest later is
 line_row k s x rest later is = is
 
-lines_in_rows : (k : Kind) (s : State) (rows : List Row) → flat_map (line_in k s) rows ≡ flat_map (line_of k s) (records_in k rows)
+lines_in_rows : (k : Kind) (s : State) (rows : List Row) → flat_map (line_where (is_of (listed.Records k)) s) rows ≡ flat_map (line_of k s) (records_in k rows)
 lines_in_rows k s [] = refl
-lines_in_rows k s (x ∷ xs) = line_row k s x (records_in k xs) (flat_map (line_in k s) xs) (lines_in_rows k s xs)
+lines_in_rows k s (x ∷ xs) = line_row k s x (records_in k xs) (flat_map (line_where (is_of (listed.Records k)) s) xs) (lines_in_rows k s xs)
 
--- the lines of rows are those of the records of the state that they give
-pub lines_of_rows : (k : Kind) (rows : List Row) → flat_map (line_in k (state_in rows)) rows ≡ lines_of k (state_in rows)
-lines_of_rows k rows =
+claim_row : (s : State) (x : Row) (rest : List (ℕ × Intercept)) (later : List ℕ) → later ≡ flat_map (entry_line listed.Intercepts s) rest
+    → line_where (is_of listed.Intercepts) s x ++ later ≡ flat_map (entry_line listed.Intercepts s) (intercept_in x ++ rest)
+claim_row s (row.Intercept n i) rest later is = ap (λ (l : List ℕ). intercept_line s n.0 i ++ l) is
+claim_row s x rest later is = is
+
+claims_in_rows : (s : State) (rows : List Row) → flat_map (line_where (is_of listed.Intercepts) s) rows ≡ flat_map (entry_line listed.Intercepts s) (intercepts_in rows)
+claims_in_rows s [] = refl
+claims_in_rows s (x ∷ xs) = claim_row s x (intercepts_in xs) (flat_map (line_where (is_of listed.Intercepts) s) xs) (claims_in_rows s xs)
+
+-- the lines of rows are those of what the state has that they give
+pub lines_of_rows : (l : Listed) (rows : List Row) → flat_map (line_where (is_of l) (state_in rows)) rows ≡ lines_of l (state_in rows)
+lines_of_rows (listed.Records k) rows =
     lines_in_rows k (state_in rows) rows ∙ ap (λ (l : List (ℕ × Record k)). flat_map (line_of k (state_in rows)) l) (sym (table_rows k rows))
+lines_of_rows listed.Intercepts rows =
+    claims_in_rows (state_in rows) rows ∙ ap (λ (l : List (ℕ × Intercept)). flat_map (entry_line listed.Intercepts (state_in rows)) l) (sym (claims_of_rows rows))
+
+-- ---- the families of rows
+
+-- a row is of one family at most
+pub line_by_family : (s : State) (x : Row)
+    → line_where is_entity s x ++ (line_where is_policy s x ++ (line_where is_way s x ++ line_where is_use s x)) ≡ row_line s x
+line_by_family s (row.Identity n name attributes) = append-nil _
+line_by_family s (row.Service n name attributes) = append-nil _
+line_by_family s (row.Router n name attributes cost through connected) = append-nil _
+line_by_family s (row.ServicePolicy n name relation semantic identities services) = append-nil _
+line_by_family s (row.EdgeRouterPolicy n name semantic identities routers) = append-nil _
+line_by_family s (row.ServiceEdgeRouterPolicy n name semantic services routers) = append-nil _
+line_by_family s (row.Link n name a b cost latency_a latency_b up) = append-nil _
+line_by_family s (row.Terminator n service router host instance cost precedence) = append-nil _
+line_by_family s x = refl

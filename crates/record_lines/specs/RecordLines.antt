@@ -1,14 +1,17 @@
--- The lines that say the records of a state, kind by kind (docs/FORMATS.md, "Lines of records").
+-- The lines that say the records of a state, kind by kind, and its intercepts (docs/FORMATS.md, "Lines of records").
 use Rattle.std.specs.Prelude.{ℕ, not, List, [], ◌∷◌, ◌++◌, codes, decimal}
 use Rattle.std.specs.List.{flat_map}
 use Rattle.std.specs.Option.{option_map}
+use Rattle.ctrl_model.specs.declared.intercepts.Intercept.{Intercept}
 use Rattle.ctrl_model.specs.declared.kinds.Kind.{Kind}
 use Rattle.ctrl_model.specs.declared.kinds.Kind.TheVariants as kind
 use Rattle.ctrl_model.specs.State.{State, Entity, Router, Link, Policy, Terminator, Circuit}
 use Rattle.ctrl_model.specs.Tables.{Record, table}
 use Rattle.command_bodies.specs.WrittenWords.{relation_word, semantic_word, precedence_word}
+use Rattle.record_lines.specs.declared.listing.Listed.{Listed}
+use Rattle.record_lines.specs.declared.listing.Listed.TheVariants as listed
 use Rattle.record_lines.specs.RecordNames.{name_of, router_behind}
-use Rattle.record_lines.specs.RecordWords.{spaced, keyed, keyed_if_any, flag_word, head, attribute_words, side_words}
+use Rattle.record_lines.specs.RecordWords.{keyed, keyed_if_any, flag_word, head, attribute_words, side_words, protocols_word, addresses_word, ports_word}
 
 -- An identity or a service: its number, its name and its attributes.
 abbrev pub entity_line : ℕ → Entity → List ℕ
@@ -90,6 +93,30 @@ line_of kind.Terminator s x = terminator_line s x.0 x.1
 line_of kind.Circuit s x = circuit_line s x.0 x.1
 line_of kind.Attribute s x = []
 
--- The lines of the records of a kind, in the order of their numbers.
-abbrev pub lines_of : Kind → State → List ℕ
-lines_of k s = flat_map (line_of k s) (table k s).rows
+-- What an intercept claims, each field as the body of SetIntercept has it.
+abbrev pub claim_fields : Intercept → List ℕ
+claim_fields i =
+    keyed (codes "protocols") (protocols_word i) ++ (keyed (codes "addresses") (addresses_word i) ++ keyed (codes "ports") (ports_word i))
+
+-- An intercept: the number and the name of its service, and what it claims.
+abbrev pub intercept_line : State → ℕ → Intercept → List ℕ
+intercept_line s n i = head n (name_of kind.Service s n) ++ (claim_fields i ++ codes "\n")
+
+-- What is listed, each under a number: a record of a kind, or an intercept.
+abbrev pub Entry : Listed → Type 0
+Entry (listed.Records k) = Record k
+Entry listed.Intercepts = Intercept
+
+-- What a state has of it: the records of a kind under their numbers, or the intercepts under those of their services.
+abbrev pub entries : (l : Listed) → State → List (ℕ × Entry l)
+entries (listed.Records k) s = (table k s).rows
+entries listed.Intercepts s = s.intercepts
+
+-- The line of one, with its newline.
+abbrev pub entry_line : (l : Listed) → State → ℕ × Entry l → List ℕ
+entry_line (listed.Records k) s x = line_of k s x
+entry_line listed.Intercepts s x = intercept_line s x.0 x.1
+
+-- The lines of what is listed, in the order of the numbers.
+abbrev pub lines_of : Listed → State → List ℕ
+lines_of l s = flat_map (entry_line l s) (entries l s)

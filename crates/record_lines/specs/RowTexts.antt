@@ -1,16 +1,18 @@
 -- What rows say of records, and the lines of rows. Only private contracts cite these.
-use Rattle.std.specs.Prelude.{ℕ, ◌==◌, ◌&&◌, Bool, false, cond, List, [], ◌∷◌, None, Some, option_and_then}
+use Rattle.std.specs.Prelude.{ℕ, ◌==◌, ◌&&◌, ◌||◌, Bool, true, false, cond, List, [], ◌∷◌, None, Some, option_and_then}
 use Rattle.std.specs.declared.option.Option.{Option}
-use Rattle.std.specs.List.{flat_map}
 use Rattle.std.specs.Option.{option_map_or, option_or, unwrap_or}
 use Rattle.ctrl_model.specs.declared.kinds.Kind.{Kind}
+use Rattle.ctrl_model.specs.declared.kinds.Kind.TheVariants as kind
 use Rattle.ctrl_model.specs.State.{State}
-use Rattle.ctrl_model.specs.Tables.{record_name}
+use Rattle.ctrl_model.specs.Tables.{is_entity_kind, is_policy_kind, record_name}
 use Rattle.row_codec.specs.declared.rows.Row.{Row}
 use Rattle.row_codec.specs.declared.rows.Row.TheVariants as row
 use Rattle.row_codec.specs.RowKeys.{kind_number}
 use Rattle.state_building.specs.RowForms.{by_row}
-use Rattle.record_lines.specs.RecordLines.{line_of}
+use Rattle.record_lines.specs.declared.listing.Listed.{Listed}
+use Rattle.record_lines.specs.declared.listing.Listed.TheVariants as listed
+use Rattle.record_lines.specs.RecordLines.{intercept_line, line_of}
 
 -- Whether two kinds are one.
 abbrev pub same_kind : Kind → Kind → Bool
@@ -55,21 +57,53 @@ abbrev pub behind : ℕ → Option (ℕ × ℕ) → ℕ
 behind v None = 0
 behind v (Some e) = cond (e.0 == v) e.1 (cond (e.1 == v) e.0 0)
 
--- Whether a row is a record of a kind.
-abbrev pub is_of : Kind → Row → Bool
-is_of k x = option_map_or (λ (e : Kind × ℕ × List ℕ). same_kind e.0 k) (entry_in x) false
+-- Whether a row is a record whose kind passes a test.
+abbrev pub is_record : (Kind → Bool) → Row → Bool
+is_record test x = option_map_or (λ (e : Kind × ℕ × List ℕ). test e.0) (entry_in x) false
 
--- The line of the record that a row is; nothing where it is none.
+-- Whether a row says an intercept.
+abbrev pub says_intercept : Row → Bool
+says_intercept x = by_row (record {
+  next = λ k n. false;
+  setting = λ cost. false;
+  one = λ k n r. false;
+  count = λ r a b c. false;
+  intercept = λ n i. true;
+  serial = λ n. false;
+}) x
+
+-- Whether a row is of what is listed.
+abbrev pub is_of : Listed → Row → Bool
+is_of (listed.Records k) x = is_record (λ j. same_kind j k) x
+is_of listed.Intercepts x = says_intercept x
+
+-- The line of the record or of the intercept that a row is; nothing where it is neither.
 abbrev pub row_line : State → Row → List ℕ
 row_line s x = by_row (record {
   next = λ k n. [];
   setting = λ cost. [];
   one = λ k n r. line_of k s (n, r);
   count = λ r a b c. [];
-  intercept = λ n i. [];
+  intercept = λ n i. intercept_line s n i;
   serial = λ n. [];
 }) x
 
--- The line of a row that is a record of a kind.
-abbrev pub line_in : Kind → State → Row → List ℕ
-line_in k s x = cond (is_of k x) (row_line s x) []
+-- The line of a row that passes a test.
+abbrev pub line_where : (Row → Bool) → State → Row → List ℕ
+line_where test s x = cond (test x) (row_line s x) []
+
+-- Whether a row is an identity, a service or a router.
+abbrev pub is_entity : Row → Bool
+is_entity x = is_record is_entity_kind x
+
+-- Whether a row is a policy.
+abbrev pub is_policy : Row → Bool
+is_policy x = is_record is_policy_kind x
+
+-- Whether a row is a link or a terminator.
+abbrev pub is_way : Row → Bool
+is_way x = is_record (λ k. same_kind k kind.Link || same_kind k kind.Terminator) x
+
+-- Whether a row is a circuit or an intercept.
+abbrev pub is_use : Row → Bool
+is_use x = is_record (λ k. same_kind k kind.Circuit) x || says_intercept x

@@ -1,11 +1,12 @@
 -- The state behind the first commands of `examples/network.lines`, by hand.
 use Rattle.std.specs.Prelude.{ℕ, true, false, List, [], ◌∷◌, codes, None}
+use Rattle.ctrl_model.specs.declared.addresses.Address.TheVariants.{Range, Under}
 use Rattle.ctrl_model.specs.declared.kinds.Side.{Side}
 use Rattle.ctrl_model.specs.declared.kinds.Semantic.TheVariants.{AnyOf}
 use Rattle.ctrl_model.specs.declared.kinds.Relation.TheVariants.{Dial, IdentityRouter, ServiceRouter}
 use Rattle.ctrl_model.specs.declared.kinds.Precedence.TheVariants.{Normal}
 use Rattle.ctrl_model.specs.Numbered.{Table}
-use Rattle.ctrl_model.specs.State.{State, Entity, Router, Link, Policy, Terminator, Circuit}
+use Rattle.ctrl_model.specs.State.{State, Router}
 
 -- A table of one record.
 abbrev pub lone : {R : Type 0} → R → Table R
@@ -44,4 +45,13 @@ small_network = record {
   least_router_cost = 10;
   intercepts = [];
   serial = 0;
+}
+
+-- That network with a second service: web claims what is under example.org at the port 443, and api the addresses 10.1.0.0/16 at 22.
+abbrev pub claimed_network : State
+claimed_network = record small_network {
+  services = record { rows = (1, record { name = codes "web"; attributes = [] }) ∷ (2, record { name = codes "api"; attributes = [] }) ∷ []; next = 3 };
+  intercepts =
+      (1, record { tcp = true; udp = false; addresses = Under (codes "example.org") ∷ []; ports = record { low = 443; high = 443 } ∷ [] })
+      ∷ (2, record { tcp = true; udp = false; addresses = Range 167837696 16 ∷ []; ports = record { low = 22; high = 22 } ∷ [] }) ∷ [];
 }

@@ -1,12 +1,15 @@
-//! The records of a state as lines that people read (docs/FORMATS.md, "Lines of records").
+//! The records and the intercepts of a state as lines that people read (docs/FORMATS.md, "Lines of records").
 #![tactic(auto)]
 
 mod circuit_putting;
+mod intercept_putting;
+mod laws;
 mod listing;
 mod naming;
 mod record_putting;
 mod word_putting;
 mod worked;
 
-pub use listing::list;
-pub use worked::worked_lists;
+pub use laws::fields_are_the_body;
+pub use listing::{Listed, list};
+pub use worked::{worked_intercepts, worked_lists};

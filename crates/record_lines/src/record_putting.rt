@@ -2,15 +2,17 @@ ghost use Rattle.std.specs.Prelude.{◌≡◌, ◌++◌, not, OnOk, codes, decim
 ghost use Rattle.std.specs.Option.{option_map};
 ghost use Rattle.ctrl_model.specs.declared.kinds.Kind.TheVariants as kind;
 ghost use Rattle.ctrl_model.specs.declared.kinds.Relation.TheVariants.{IdentityRouter};
+ghost use Rattle.ctrl_model.specs.State.{State};
 ghost use Rattle.row_codec.specs.RowForm.{policy_of};
 ghost use Rattle.state_building.specs.BuiltStates.{state_in};
 ghost use Rattle.command_bodies.specs.WrittenWords.{precedence_word as word_of_precedence, relation_word as word_of_relation, semantic_word as word_of_semantic};
 ghost use Rattle.record_lines.specs.RecordLines.{entity_line, link_line, router_line, router_policy_line, service_policy_line, terminator_line};
 ghost use Rattle.record_lines.specs.RecordNames.{name_of as named};
 ghost use Rattle.record_lines.specs.RecordWords.{flag_word, keyed, keyed_if_any, side_words};
-ghost use Rattle.record_lines.specs.RowTexts.{row_line};
+ghost use Rattle.record_lines.specs.RowTexts.{is_entity, is_policy, is_use, is_way, line_where, row_line};
 
 use crate::circuit_putting::{put_circuit, put_named};
+use crate::intercept_putting::put_intercept;
 use crate::word_putting::{
     precedence_word, put_attributes, put_count, put_flag, put_head, put_keyed, put_number,
     put_side, relation_word, semantic_word,
@@ -200,9 +202,9 @@ fn put_terminator(
     text.extend_from_slice(b"\n")
 }
 
-/// Puts the line of the record that a row is, in the state that rows give; nothing where it is none.
-pub(crate) fn put_row(text: &mut Vec<u8>, rows: &[Row], row: &Row) -> Result<(), AllocError>
-    ensures { OnOk result (text.new.items ≡ text.old.items ++ row_line (state_in rows.now) row.now) }
+// Puts the line of a row that is an identity, a service or a router.
+fn put_entity_row(text: &mut Vec<u8>, row: &Row) -> Result<(), AllocError>
+    ensures { (s : State) → OnOk result (text.new.items ≡ text.old.items ++ line_where is_entity s row.now) }
 {
     match row {
         Row::Identity {
@@ -223,19 +225,15 @@ pub(crate) fn put_row(text: &mut Vec<u8>, rows: &[Row], row: &Row) -> Result<(),
             through,
             connected,
         } => put_router(text, no.0, name, attributes, *cost, *through, *connected),
-        Row::Link {
-            no,
-            name,
-            a,
-            b,
-            cost,
-            latency_a,
-            latency_b,
-            up,
-        } => {
-            let costs = (*cost, (*latency_a, *latency_b));
-            put_link(text, rows, no.0, name, (a.0, b.0), costs, *up)
-        }
+        _ => Ok(()),
+    }
+}
+
+// Puts the line of a row that is a policy.
+fn put_policy_row(text: &mut Vec<u8>, row: &Row) -> Result<(), AllocError>
+    ensures { (s : State) → OnOk result (text.new.items ≡ text.old.items ++ line_where is_policy s row.now) }
+{
+    match row {
         Row::ServicePolicy {
             no,
             name,
@@ -258,6 +256,28 @@ pub(crate) fn put_row(text: &mut Vec<u8>, rows: &[Row], row: &Row) -> Result<(),
             services,
             routers,
         } => put_router_policy(text, no.0, name, *semantic, services, routers),
+        _ => Ok(()),
+    }
+}
+
+// Puts the line of a row that is a link or a terminator.
+fn put_way_row(text: &mut Vec<u8>, rows: &[Row], row: &Row) -> Result<(), AllocError>
+    ensures { OnOk result (text.new.items ≡ text.old.items ++ line_where is_way (state_in rows.now) row.now) }
+{
+    match row {
+        Row::Link {
+            no,
+            name,
+            a,
+            b,
+            cost,
+            latency_a,
+            latency_b,
+            up,
+        } => {
+            let costs = (*cost, (*latency_a, *latency_b));
+            put_link(text, rows, no.0, name, (a.0, b.0), costs, *up)
+        }
         Row::Terminator {
             no,
             service,
@@ -270,6 +290,15 @@ pub(crate) fn put_row(text: &mut Vec<u8>, rows: &[Row], row: &Row) -> Result<(),
             let ends = (service.0, router.0);
             put_terminator(text, rows, no.0, ends, *host, instance, *cost, *precedence)
         }
+        _ => Ok(()),
+    }
+}
+
+// Puts the line of a row that is a circuit or an intercept.
+fn put_use_row(text: &mut Vec<u8>, rows: &[Row], row: &Row) -> Result<(), AllocError>
+    ensures { OnOk result (text.new.items ≡ text.old.items ++ line_where is_use (state_in rows.now) row.now) }
+{
+    match row {
         Row::Circuit {
             no,
             identity,
@@ -281,6 +310,18 @@ pub(crate) fn put_row(text: &mut Vec<u8>, rows: &[Row], row: &Row) -> Result<(),
             let user = (identity.0, service.0);
             put_circuit(text, rows, no.0, user, terminator.0, ingress.0, links)
         }
+        Row::Intercept { service, intercept } => put_intercept(text, rows, service.0, intercept),
         _ => Ok(()),
     }
+}
+
+/// Puts the line of the record or of the intercept that a row is, in the state that rows give; nothing where it is neither.
+#[tactic(auto, using(crate::proofs::RowRecords::line_by_family))]
+pub(crate) fn put_row(text: &mut Vec<u8>, rows: &[Row], row: &Row) -> Result<(), AllocError>
+    ensures { OnOk result (text.new.items ≡ text.old.items ++ row_line (state_in rows.now) row.now) }
+{
+    put_entity_row(text, row)?;
+    put_policy_row(text, row)?;
+    put_way_row(text, rows, row)?;
+    put_use_row(text, rows, row)
 }

@@ -1,4 +1,4 @@
-ghost use Rattle.std.specs.Prelude.{◌≡◌, ◌++◌, OnOk, decimal};
+ghost use Rattle.std.specs.Prelude.{◌≡◌, ◌++◌, [], OnOk, decimal};
 ghost use Rattle.std.specs.List.{flat_map};
 ghost use Rattle.command_bodies.specs.WrittenWords.{relation_word as word_of_relation, semantic_word as word_of_semantic, precedence_word as word_of_precedence};
 ghost use Rattle.record_lines.specs.RecordWords.{attribute_words, flag_word as word_of_flag, head, keyed, side_words, spaced};
@@ -31,13 +31,20 @@ pub(crate) fn put_head(text: &mut Vec<u8>, no: u32, name: &Name) -> Result<(), A
     put_spaced(text, name.bytes())
 }
 
+/// Puts the key of a field down, behind which its value stands.
+pub(crate) fn put_key(text: &mut Vec<u8>, key: &[u8]) -> Result<(), AllocError>
+    ensures { OnOk result (text.new.items ≡ text.old.items ++ keyed key.now []) }
+{
+    text.extend_from_slice(b" ")?;
+    text.extend_from_slice(key)?;
+    text.extend_from_slice(b"=")
+}
+
 /// Puts a field down: its key and its value.
 pub(crate) fn put_keyed(text: &mut Vec<u8>, key: &[u8], value: &[u8]) -> Result<(), AllocError>
     ensures { OnOk result (text.new.items ≡ text.old.items ++ keyed key.now value.now) }
 {
-    text.extend_from_slice(b" ")?;
-    text.extend_from_slice(key)?;
-    text.extend_from_slice(b"=")?;
+    put_key(text, key)?;
     text.extend_from_slice(value)
 }
 

@@ -1,5 +1,5 @@
 -- A folder, shipped whole.
-use Rattle.std.proofs.Common.{◌≡◌, ℕ, ◌<◌, Bool, IsTrue, IfErr, IsErrOf, List, [], ◌++◌, length, Option, None, Some, Ok, Err, refl, sym, ap, ◌∙◌, subst}
+use Rattle.std.proofs.Common.{◌≡◌, ℕ, ◌<◌, Bool, IsTrue, IfErr, IsErrOf, List, [], length, filter, Option, None, Some, Ok, Err, refl, sym, ap, ◌∙◌, subst}
 use Rattle.std.specs.Prelude.{⊤}
 use Rattle.std.specs.declared.result.Result.{Result}
 use Rattle.ziti_outside.specs.declared.desk.Part.{Part}
@@ -10,18 +10,21 @@ use Rattle.ziti_outside.specs.Untouched.{OnlyReads}
 use Rattle.ziti_outside.specs.Views.{Seen, Stopped}
 use Rattle.ctrl_model.specs.declared.formats.Format.{Format}
 use Rattle.ctrl_model.specs.declared.formats.Format.TheVariants.{One, Two}
-use Rattle.ctrl_model.specs.State.{State}
+use Rattle.ctrl_model.specs.State.{start}
 use Rattle.channel_frame.specs.declared.frames.Frame.{Frame}
 use Rattle.slot_files.specs.FolderImage.{Stands}
 use Rattle.slot_files.proofs.StandLaws.{one_stands}
-use Rattle.row_store.specs.OpenedStates.{OpensToState}
 use Rattle.row_store.specs.StoredRows.{Stored, IsStoreOf}
+use Rattle.row_store.proofs.StateRows.{start_valid}
+use Rattle.slot_reading.specs.BatchRows.{ByteRows}
 use Rattle.ship_core.specs.declared.faults.ShipFault.{ShipFault}
 use Rattle.ship_core.specs.declared.faults.ShipFault.TheVariants.{Write, Damaged}
-use Rattle.ship_core.specs.Faults.{fault_of, disk_failure, Judges, FindFails}
-use Rattle.ship_core.specs.Shipping.{shipped}
+use Rattle.ship_core.specs.Faults.{fault_of, disk_failure, IsOfState, FindFails}
+use Rattle.ship_core.specs.Pieces.{frames_of_all}
+use Rattle.ship_core.specs.SaidFrames.{ShipsJudged}
+use Rattle.ship_core.specs.Shipping.{is_from, shipments, shipped, AreSpelled, AreShippedOf}
 use Rattle.ship_core.specs.Steps.{ShipsFrames, IsUndamaged}
-use Rattle.ship_core.proofs.JudgeLaws.{opened_judges}
+use Rattle.ship_core.proofs.JudgeLaws.{start_opens, opens_so}
 use Rattle.ship_core.proofs.OldLaws.{old_frames, old_shipped, none_stand, nothing_shipped}
 use Rattle.ship_core.proofs.SaidLaws.{reads_ships, ShipsFrames-then, ShipsFrames-wider}
 
@@ -104,3 +107,45 @@ pub told_behind : {D : Type 0} {seen : D → Seen} {stopped : D → Stopped} {ol
 told_behind {seen = seen} fault from format batches reads cause stands said =
     behind_judging fault (shipped from format batches) reads cause
     (said format batches (subst (λ (i : Image). Stands format i batches) (sym reads.parts) stands))
+
+-- ---- what was said, whether the folder is told or not
+
+-- What was said of a store of the first format is shipped of its rows.
+pub old_kind : (from : ℕ) (format : Format) (rows : ByteRows) → format ≡ One → AreShippedOf from format rows (old_frames from rows)
+old_kind from format rows is = subst (λ (f : Format). AreShippedOf from f rows (old_frames from rows)) (sym is) refl
+
+-- The frames of batches of the second format that were read one by one.
+abbrev pub read_frames : (from : ℕ) → List (List ℕ) → List Frame
+read_frames from batches = frames_of_all 0 (filter (is_from from) (shipments Two batches))
+
+pub kept_kind : (from : ℕ) (format : Format) (rows : ByteRows) (batches : List (List ℕ)) → format ≡ Two → AreSpelled batches → AreShippedOf from format rows (read_frames from batches)
+kept_kind from format rows batches is spelled = subst (λ (f : Format). AreShippedOf from f rows (read_frames from batches)) (sym is) (batches, spelled, refl)
+
+-- A folder with an empty mark was found to open to the start.
+pub empty_judged : {D : Type 0} {seen : D → Seen} {stopped : D → Stopped} {old new : D} (tells : Bool) (from : ℕ) → (IsTrue tells → length ((seen old).reads Mark) ≡ 0)
+    → ShipsFrames seen stopped old new None [] → ShipsJudged tells seen stopped from old new None
+empty_judged {seen = seen} {old = old} tells from empty said = record {
+  state = start;
+  valid = start_valid;
+  opens = λ told. start_opens (seen old).reads (empty told);
+  format = Two;
+  has = tt;
+  all = [];
+  shipped = ([], tt, refl);
+  says = said.says;
+}
+
+-- A folder whose store has the rows of a state was found to open to it.
+pub store_judged : {D : Type 0} {seen : D → Seen} {stopped : D → Stopped} {old new : D} (tells : Bool) (from : ℕ) (stored : Stored) (fault : Option ShipFault) (all : List Frame)
+    → (IsTrue tells → IsStoreOf (seen old).reads stored) → IsOfState stored → AreShippedOf from stored.format stored.rows all → ShipsFrames seen stopped old new fault all
+    → ShipsJudged tells seen stopped from old new fault
+store_judged {seen = seen} {old = old} tells from stored fault all kept of kind said = record {
+  state = of.0;
+  valid = of.1;
+  opens = λ told. opens_so (seen old).reads stored (kept told) of;
+  format = stored.format;
+  has = of.2;
+  all = all;
+  shipped = subst (λ (r : ByteRows). AreShippedOf from stored.format r all) of.3 kind;
+  says = said.says;
+}

@@ -1,8 +1,7 @@
 -- How a folder is judged before it is shipped.
-use Rattle.std.proofs.Common.{◌≡◌, ℕ, zero, suc, ◌<◌, Bool, IsTrue, IfOk, IfErr, List, [], length, Option, None, Some, Ok, Err, inl, inr, refl, sym, ap, ◌∙◌, subst, arith}
+use Rattle.std.proofs.Common.{◌≡◌, ℕ, zero, suc, ◌<◌, Bool, IsTrue, List, length, Option, None, Some, Ok, Err, inl, inr, refl, sym, ap, ◌∙◌, subst, arith}
 use Rattle.std.specs.Prelude.{⊤}
 use Rattle.std.specs.declared.result.Result.{Result}
-use Rattle.ziti_outside.specs.declared.desk.Part.{Part}
 use Rattle.ziti_outside.specs.declared.desk.Part.TheVariants.{Mark}
 use Rattle.ziti_outside.specs.Images.{Image}
 use Rattle.ziti_outside.specs.Causes.{HasCause}
@@ -24,7 +23,7 @@ use Rattle.row_store.specs.declared.faults.StoreFault.TheVariants as store
 use Rattle.row_store.specs.Faults.{disk_failure as store_failure, OpenFails}
 use Rattle.row_store.specs.GateBatches.{GateFails}
 use Rattle.row_store.specs.OpenedRows.{OpensTo}
-use Rattle.row_store.specs.OpenedStates.{byte_rows_of, OpensToState, IsStateless}
+use Rattle.row_store.specs.OpenedStates.{byte_rows_of, OpensToState}
 use Rattle.row_store.specs.StoredRows.{Stored, IsStoreOf}
 use Rattle.row_store.proofs.OpeningLaws.{opens_none}
 use Rattle.row_store.proofs.StateRows.{puts_of_state, rows_are, store_without_state, start_valid, start_rows}
@@ -100,21 +99,23 @@ store_unwritten store.Spent e = cc
 store_unwritten store.NoMemory e = cc
 
 -- The folder of a store whose rows are those of a state opens to it.
+pub opens_so : (image : Image) (stored : Stored) → IsStoreOf image stored → (of : IsOfState stored) → OpensToState image of.0
+opens_so image stored kept of = record {
+  format = stored.format;
+  has = of.2;
+  valid = of.1;
+  rows = record { batches = kept.batches; stands = kept.stands; give = subst (λ (r : ByteRows). Give stored.format kept.batches r) of.3 kept.give };
+}
+
 pub store_opens : (image : Image) (stored : Stored) → IsStoreOf image stored → IsOfState stored → (s : State) × OpensToState image s
-store_opens image stored kept of = (
-  of.0,
-  record {
-    format = stored.format;
-    has = of.2;
-    valid = of.1;
-    rows = record { batches = kept.batches; stands = kept.stands; give = subst (λ (r : ByteRows). Give stored.format kept.batches r) of.3 kept.give };
-  },
-)
+store_opens image stored kept of = (of.0, opens_so image stored kept of)
 
 -- Over an empty mark a folder opens to the start.
+pub start_opens : (image : Image) → length (image Mark) ≡ 0 → OpensToState image start
+start_opens image e = record { format = Two; has = tt; valid = start_valid; rows = subst (OpensTo Two image) (sym (start_rows Two)) (opens_none Two image e) }
+
 pub empty_opens : (image : Image) → length (image Mark) ≡ 0 → (s : State) × OpensToState image s
-empty_opens image e =
-    (start, record { format = Two; has = tt; valid = start_valid; rows = subst (OpensTo Two image) (sym (start_rows Two)) (opens_none Two image e) })
+empty_opens image e = (start, start_opens image e)
 
 -- A folder that opens is judged so by every fault but damage.
 pub opened_judges : (image : Image) (fault : Option ShipFault) → ((s : State) × OpensToState image s) → ((f : ShipFault) → fault ≡ Some f → IsUndamaged f) → Judges image fault

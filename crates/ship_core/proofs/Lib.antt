@@ -2,6 +2,9 @@ mod SaidLaws
 mod PieceLaws
 mod OpsLaws
 mod WayLaws
+mod ReadLaws
+mod FollowLaws
+mod FrameLimits
 mod PieceSteps
 mod RecordSteps
 mod OldLaws

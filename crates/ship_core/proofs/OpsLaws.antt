@@ -1,5 +1,5 @@
 -- The operations that bytes spell, and the serial behind them.
-use Rattle.std.proofs.Common.{◌≡◌, ℕ, ◌+◌, ◌<◌, ◌≤◌, get_or, drop, Bool, true, false, cond, List, [], ◌∷◌, ◌++◌, length, Option, None, Some, refl, sym, ap, ◌∙◌, subst, length-append, arith}
+use Rattle.std.proofs.Common.{◌≡◌, ℕ, ◌+◌, ◌<◌, ◌≤◌, get_or, drop, Bool, true, false, cond, List, [], ◌∷◌, length, Option, None, Some, refl, sym, ap, ◌∙◌, length-append, arith}
 use Rattle.std.specs.List.{AllByRecursion}
 use Rattle.std.specs.Option.{unwrap_or, option_map_or}
 use Rattle.std.specs.Ordering.{is_eq}
@@ -10,10 +10,9 @@ use Rattle.row_codec.specs.declared.changes.Op.{Op}
 use Rattle.row_codec.specs.declared.changes.Op.TheVariants.{Put, Delete}
 use Rattle.row_codec.specs.RowDifference.{Rises, value_at}
 use Rattle.row_codec.specs.Batches.{bytes_cmp, entry_of, entries_of, op_bytes, batch_bytes, IsSpelledOp, Spells}
-use Rattle.row_codec.specs.BatchReading.{front_op}
 use Rattle.row_codec.proofs.BatchLaws.{op_again}
 use Rattle.row_laws.proofs.Differences.{value_at-with_batch}
-use Rattle.slot_reading.specs.BatchRows.{ByteRows, rows_after, serial_key, serial_in, serial_of}
+use Rattle.slot_reading.specs.BatchRows.{ByteRows, rows_after, serial_key, serial_in}
 use Rattle.ship_core.specs.Shipping.{ops_within, ops_in, serial_or_none}
 use Rattle.ship_core.specs.Steps.{serial_by, serial_after}
 

@@ -1,14 +1,13 @@
 -- The pieces of a batch, said one by one.
-use Rattle.std.proofs.Common.{◌≡◌, ℕ, ◌+◌, ◌-◌, ◌*◌, ◌%◌, ◌^◌, ◌<◌, ◌≤◌, drop, List, [], ◌∷◌, ◌++◌, length, Option, None, Some, refl, sym, ap, ◌∙◌, subst, append-nil, arith}
+use Rattle.std.proofs.Common.{◌≡◌, ℕ, ◌+◌, ◌-◌, ◌%◌, ◌^◌, ◌<◌, ◌≤◌, List, [], ◌∷◌, ◌++◌, length, None, Some, sym, ap, ◌∙◌, subst, arith}
 use Rattle.std.specs.Int.{w32, w64, to_le_bytes}
-use Rattle.std.proofs.lemmas.List.{length-take}
 use Rattle.ziti_outside.specs.Views.{Seen, Stopped}
 use Rattle.channel_frame.specs.declared.frames.Frame.{Frame}
 use Rattle.channel_frame.specs.declared.frames.Header.{Header}
 use Rattle.channel_frame.specs.FrameSpelling.{headers_spelling, longest_headers, longest_body, KeepsLimits}
 use Rattle.ship_core.specs.declared.faults.ShipFault.{ShipFault}
 use Rattle.ship_core.specs.declared.shipments.Shipment.{Shipment}
-use Rattle.ship_core.specs.Pieces.{piece_size, piece_count, piece_at, piece_headers, piece_frame, frames_from, frames_of}
+use Rattle.ship_core.specs.Pieces.{piece_count, piece_at, piece_headers, piece_frame, frames_from, frames_of}
 use Rattle.ship_core.specs.Steps.{ShipsFrames}
 use Rattle.ship_core.proofs.PieceLaws.{frames_push, frames_split, piece_most}
 use Rattle.ship_core.proofs.SaidLaws.{ShipsFrames-then, ShipsFrames-wider}

@@ -1,8 +1,9 @@
 -- The records of a folder, shipped one by one.
-use Rattle.std.proofs.Common.{◌≡◌, ℕ, ◌+◌, ◌%◌, ◌^◌, ◌<◌, ◌≤◌, Bool, true, false, cond, IsTrue, IsErrOf, IfOk, List, [], ◌∷◌, ◌++◌, length, Option, None, Some, Ok, Err, refl, sym, ap, ◌∙◌, subst, append_assoc, length-append, arith, filter}
+use Rattle.std.proofs.Common.{◌≡◌, ℕ, ◌+◌, ◌%◌, ◌^◌, ◌<◌, ◌≤◌, Bool, true, false, cond, IsTrue, IsErrOf, IfOk, List, [], ◌++◌, length, Option, None, Some, Ok, Err, refl, sym, ap, ◌∙◌, subst, append_assoc, arith, filter}
 use Rattle.std.specs.Prelude.{nat_le}
 use Rattle.std.specs.declared.result.Result.{Result}
 use Rattle.std.proofs.lemmas.Bool.{leb-true, le-leb}
+use Rattle.std.proofs.lemmas.Result.{IfOk-weaker}
 use Rattle.ziti_outside.specs.Causes.{HasCause}
 use Rattle.ziti_outside.specs.Images.{Image}
 use Rattle.ziti_outside.specs.Untouched.{OnlyReads}
@@ -12,7 +13,7 @@ use Rattle.channel_frame.specs.declared.frames.Frame.{Frame}
 use Rattle.slot_files.specs.FolderImage.{Stands}
 use Rattle.slot_files.proofs.StandLaws.{one_stands}
 use Rattle.row_codec.specs.declared.changes.Op.{Op}
-use Rattle.row_codec.specs.Batches.{batch_bytes}
+use Rattle.row_codec.specs.Batches.{batch_bytes, IsBatch}
 use Rattle.row_store.specs.GateBatches.{IsBatchAt}
 use Rattle.row_store.specs.StoredRows.{Stored, IsStoreOf}
 use Rattle.ship_core.specs.declared.faults.ShipFault.{ShipFault}
@@ -22,7 +23,6 @@ use Rattle.ship_core.specs.declared.shipments.Shipment.{Shipment}
 use Rattle.ship_core.specs.Faults.{fault_of, disk_failure}
 use Rattle.ship_core.specs.Pieces.{piece_count, frames_of, frames_of_all}
 use Rattle.ship_core.specs.Shipping.{is_from, shipments_from, rows_behind_all, shipped}
-use Rattle.ship_core.specs.SaidFrames.{AreFirst}
 use Rattle.ship_core.specs.Steps.{ShipsFrames, IsOnItsWay, Passes, serial_after, type_at, shipment_of, frames_if}
 use Rattle.ship_core.proofs.PieceLaws.{frames_count}
 use Rattle.ship_core.proofs.SaidLaws.{nothing_done, reads_ships, ShipsFrames-then, ShipsFrames-wider}
@@ -71,12 +71,24 @@ read_shipment way ops serial e = ap (λ (n : ℕ). shipped_as (type_at way.at) n
 
 -- ---- past one record
 
+-- A batch without operations has no frames.
+no_pieces : (from place : ℕ) (way : Way) → frames_if from place (shipment_of way []) ≡ []
+no_pieces from place way = by (is_from from (shipment_of way []))
+  where
+    by : (b : Bool) → cond b (frames_of place (shipment_of way [])) [] ≡ []
+    by true = refl
+    by false = refl
+
 -- The record was not read.
 pub not_read : {D : Type 0} {seen : D → Seen} {stopped : D → Stopped} {old new : D} (tells : Bool) (from : ℕ) (way : Way) (frames : List Frame) (fault : ShipFault)
     → (Some fault ≡ Some Write → ⊥) → OnlyReads seen stopped old new → HasCause (seen old).disk_faults (seen new).disk_faults (disk_failure (Some fault))
     → Passes tells seen stopped from way old new (Err fault) frames
 not_read {seen = seen} {old = old} tells from way frames fault unwritten r cause = record {
   all = [];
+  ops = [];
+  batch = record { rises = tt; fits = tt };
+  made = sym (no_pieces from (length frames) way);
+  serial = tt;
   ships = reads_ships (Some fault) unwritten r cause;
   sequence = tt;
   told = λ told on. tt;
@@ -95,15 +107,19 @@ among_first reads from way next frames all on later =
 
 -- The record was read, and said where it is shipped.
 pub read_said : {D : Type 0} {seen : D → Seen} {stopped : D → Stopped} {old mid new : D} (tells : Bool) (stored : Stored) (from : ℕ) (way : Way) (frames : List Frame) (ops : List Op) (place : ℕ)
-    (r : Result Way ShipFault) → (IsTrue tells → 0 < stored.mark) → (IsTrue tells → IsStoreOf (seen old).reads stored)
+    (r : Result Way ShipFault) → IsBatch ops → (IsTrue tells → 0 < stored.mark) → (IsTrue tells → IsStoreOf (seen old).reads stored)
     → (IsTrue tells → IsBatchAt ((seen old).reads stored.part) way.at ops place) → OnlyReads seen stopped old mid
     → HasCause (seen old).disk_faults (seen mid).disk_faults (disk_failure None)
     → ShipsFrames seen stopped mid new (fault_of r) (frames_if from (length frames) (shipment_of way ops))
     → IfOk r (λ w. (w.at ≡ place) × (w.serial ≡ serial_after way.serial ops))
     → IfOk r (λ w. w.sequence ≡ (length frames + length (frames_if from (length frames) (shipment_of way ops))) % 2 ^ 32)
     → Passes tells seen stopped from way old new r frames
-read_said {seen = seen} {old = old} tells stored from way frames ops place r some kept found reads cause said on sequence = record {
+read_said {seen = seen} {old = old} tells stored from way frames ops place r batch some kept found reads cause said on sequence = record {
   all = frames_if from (length frames) (shipment_of way ops);
+  ops = ops;
+  batch = batch;
+  made = refl;
+  serial = IfOk-weaker r _ _ (λ w e. e.1) on;
   ships = ShipsFrames-then (fault_of r) (reads_ships None (λ e. cc) reads cause) said;
   sequence = sequence;
   told = λ told way_on. by r on told way_on;

@@ -8,7 +8,7 @@ use Rattle.ziti_outside.specs.declared.failed.Failed.{Failed}
 use Rattle.ziti_outside.specs.Causes.{HasCause}
 use Rattle.ziti_outside.specs.Images.{Image}
 use Rattle.ziti_outside.specs.Moments.{Now, Saying, Elapses, Remembers}
-use Rattle.ziti_outside.specs.Told.{Took, TookFront, IsFront}
+use Rattle.ziti_outside.specs.Told.{Took, TookFront}
 use Rattle.ziti_outside.specs.Untouched.{OnlySays, OnlyReads}
 use Rattle.ziti_outside.specs.Views.{Seen, Stopped}
 use Rattle.ziti_outside.proofs.Moves.{Took-none, Took-then, Took-taken, IsFront-none, IsFront-then, IsFront-longer}
@@ -19,7 +19,7 @@ use Rattle.ship_core.specs.declared.faults.ShipFault.{ShipFault}
 use Rattle.ship_core.specs.declared.faults.ShipFault.TheVariants.{Disk, Write, Damaged, NoMemory}
 use Rattle.ship_core.specs.Faults.{fault_of, disk_failure, write_failure}
 use Rattle.ship_core.specs.Pieces.{written}
-use Rattle.ship_core.specs.SaidFrames.{AreFirst, TookUnless, SaysFrames, OnlyShips}
+use Rattle.ship_core.specs.SaidFrames.{AreFirst, TookUnless, OnlyShips}
 use Rattle.ship_core.specs.Steps.{ShipsFrames}
 
 -- ---- counts of faults

@@ -1,5 +1,5 @@
 -- How far a shipping has come, from record to record.
-use Rattle.std.proofs.Common.{◌≡◌, ℕ, zero, suc, ◌+◌, ◌==◌, ◌<◌, ◌≤◌, Bool, true, false, cond, List, [], ◌∷◌, ◌++◌, length, filter, Option, None, Some, refl, sym, ap, ◌∙◌, subst, append_assoc, append-nil, length-append, arith}
+use Rattle.std.proofs.Common.{◌≡◌, ℕ, ◌+◌, ◌==◌, ◌<◌, ◌≤◌, Bool, true, false, cond, List, [], ◌∷◌, ◌++◌, length, filter, Option, refl, sym, ap, ◌∙◌, subst, append_assoc, append-nil, length-append, arith}
 use Rattle.std.specs.Prelude.{nat_le}
 use Rattle.std.proofs.lemmas.Bool.{leb-true, le-leb, eqb-true}
 use Rattle.std.specs.List.{AllByRecursion}
@@ -8,7 +8,7 @@ use Rattle.ziti_outside.specs.declared.desk.Part.{Part}
 use Rattle.ziti_outside.specs.declared.desk.Part.TheVariants.{Mark}
 use Rattle.ziti_outside.specs.Images.{Image}
 use Rattle.ctrl_model.specs.declared.formats.Format.{Format}
-use Rattle.ctrl_model.specs.declared.formats.Format.TheVariants.{One, Two}
+use Rattle.ctrl_model.specs.declared.formats.Format.TheVariants.{Two}
 use Rattle.channel_frame.specs.declared.frames.Frame.{Frame}
 use Rattle.journal_core.specs.Slots.{Slot, IsClosed, IsRecord, records_of, slot_end}
 use Rattle.journal_core.proofs.SlotLaws.{one_at, closed_or_open, slot_closed, end-push}
@@ -16,7 +16,7 @@ use Rattle.slot_files.specs.FolderImage.{slot_of, Stands}
 use Rattle.slot_files.proofs.StandLaws.{one_stands}
 use Rattle.row_codec.specs.declared.changes.Op.{Op}
 use Rattle.row_codec.specs.Batches.{batch_bytes, Spells}
-use Rattle.slot_reading.specs.BatchRows.{ByteRows, Leads, Raises, LeadFrom, Give, rows_after, serial_of}
+use Rattle.slot_reading.specs.BatchRows.{ByteRows, Leads, Raises, LeadFrom, Give, rows_after}
 use Rattle.slot_reading.proofs.SlotReadings.{records-append, next_stands, slot_front}
 use Rattle.row_store.specs.GateBatches.{IsGateOf, IsBatchAt}
 use Rattle.row_store.specs.StoredRows.{Stored, IsStoreOf}
@@ -24,7 +24,7 @@ use Rattle.row_store.proofs.OpeningLaws.{of_slot}
 use Rattle.ship_core.specs.declared.records.Way.{Way}
 use Rattle.ship_core.specs.declared.shipments.Shipment.{Shipment}
 use Rattle.ship_core.specs.Pieces.{whole_type, next_type, frames_of_all}
-use Rattle.ship_core.specs.Shipping.{ops_in, rows_behind, rows_behind_all, serial_or_none, shipments_from, shipments, is_from, chosen, shipped}
+use Rattle.ship_core.specs.Shipping.{ops_in, rows_behind, rows_behind_all, serial_or_none, shipments_from, is_from, chosen, shipped}
 use Rattle.ship_core.specs.Steps.{serial_after, type_at, shipment_of, frames_if, IsOnItsWay}
 use Rattle.ship_core.proofs.OpsLaws.{ops_spelled, serial_leads}
 use Rattle.ship_core.proofs.PieceLaws.{frames_go_on}
@@ -36,15 +36,15 @@ shipped_as content serial bytes = record { content = content; serial = serial; b
 -- ---- rows behind batches
 
 -- The rows behind one batch more.
-behind_push : (rows : ByteRows) (before : List (List ℕ)) (bytes : List ℕ) → rows_behind_all rows (before ++ bytes ∷ []) ≡ rows_behind (rows_behind_all rows before) bytes
+pub behind_push : (rows : ByteRows) (before : List (List ℕ)) (bytes : List ℕ) → rows_behind_all rows (before ++ bytes ∷ []) ≡ rows_behind (rows_behind_all rows before) bytes
 behind_push rows [] bytes = refl
 behind_push rows (first ∷ before) bytes = behind_push (rows_behind rows first) before bytes
 
 -- What a batch leads to are the rows behind it.
-led_behind : (rows next : ByteRows) (bytes : List ℕ) → Leads rows bytes next → rows_behind rows bytes ≡ next
+pub led_behind : (rows next : ByteRows) (bytes : List ℕ) → Leads rows bytes next → rows_behind rows bytes ≡ next
 led_behind rows next bytes l = ap (rows_after rows) (ops_spelled bytes l.ops l.spelled) ∙ sym l.after
 
-led_behind_all : (f : Format) (rows : ByteRows) (batches : List (List ℕ)) (last : ByteRows) → LeadFrom f rows batches last → rows_behind_all rows batches ≡ last
+pub led_behind_all : (f : Format) (rows : ByteRows) (batches : List (List ℕ)) (last : ByteRows) → LeadFrom f rows batches last → rows_behind_all rows batches ≡ last
 led_behind_all f rows [] last l = sym l
 led_behind_all f rows (bytes ∷ more) last l =
     ap (λ (r : ByteRows). rows_behind_all r more) (led_behind rows l.0 bytes l.1) ∙ led_behind_all f l.0 more last l.3
@@ -58,20 +58,20 @@ given_behind f (bytes ∷ more) rows g =
 -- ---- serials rise
 
 -- All of some shipments have at least a serial.
-abbrev AreFrom : ℕ → List Shipment → Type 0
+abbrev pub AreFrom : ℕ → List Shipment → Type 0
 AreFrom n list = AllByRecursion (λ (s : Shipment). n ≤ s.serial) list
 
-from_less : (n m : ℕ) (list : List Shipment) → n ≤ m → AreFrom m list → AreFrom n list
+pub from_less : (n m : ℕ) (list : List Shipment) → n ≤ m → AreFrom m list → AreFrom n list
 from_less n m [] le all = tt
 from_less n m (s ∷ list) le all = ((let first = all.0 in omega (arith, le, first)), from_less n m list le all.1)
 
-raised : (rows next : ByteRows) → Raises rows next → serial_or_none rows + 1 ≡ serial_or_none next
+pub raised : (rows next : ByteRows) → Raises rows next → serial_or_none rows + 1 ≡ serial_or_none next
 raised rows next r =
     let old : serial_or_none rows ≡ r.0 = ap (λ (o : Option ℕ). unwrap_or o 0) r.1 in
     let new : serial_or_none next ≡ r.0 + 1 = ap (λ (o : Option ℕ). unwrap_or o 0) r.2 in
     omega (arith, old, new)
 
-rising : (content : ℕ) (rows last : ByteRows) (batches : List (List ℕ)) → LeadFrom Two rows batches last → AreFrom (serial_or_none rows) (shipments_from content rows batches)
+pub rising : (content : ℕ) (rows last : ByteRows) (batches : List (List ℕ)) → LeadFrom Two rows batches last → AreFrom (serial_or_none rows) (shipments_from content rows batches)
 rising content rows last [] l = tt
 rising content rows last (bytes ∷ more) l =
     let same : rows_behind rows bytes ≡ l.0 = led_behind rows l.0 bytes l.1 in
@@ -84,7 +84,7 @@ rising content rows last (bytes ∷ more) l =
     )
 
 -- What is from a serial on is all of what has at least a later one.
-all_pass : (from n : ℕ) (list : List Shipment) → nat_le from n ≡ true → AreFrom n list → filter (is_from from) list ≡ list
+pub all_pass : (from n : ℕ) (list : List Shipment) → nat_le from n ≡ true → AreFrom n list → filter (is_from from) list ≡ list
 all_pass from n [] le all = refl
 all_pass from n (s ∷ list) le all = by (is_from from s) refl (all_pass from n list le all.1)
   where
@@ -99,7 +99,7 @@ all_pass from n (s ∷ list) le all = by (is_from from s) refl (all_pass from n 
     by false e rest = let both : false ≡ true = sym e ∙ passes in absurd cc
 
 -- What is chosen of the records of a slot that gives rows are those from the serial on.
-chosen_from : (from : ℕ) (batches : List (List ℕ)) (rows : ByteRows) → Give Two batches rows
+pub chosen_from : (from : ℕ) (batches : List (List ℕ)) (rows : ByteRows) → Give Two batches rows
     → chosen from (shipments_from whole_type [] batches) ≡ filter (is_from from) (shipments_from whole_type [] batches)
 chosen_from from [] rows g = refl
 chosen_from from (bytes ∷ more) rows g = by (is_from from first) refl
@@ -160,11 +160,12 @@ gate_within before after =
     ap length (records-append before after) ∙ length-append (records_of before) (records_of after) in
     omega (arith, whole)
 
-type_behind : (at next n : ℕ) → next ≡ at + 5 + n → 8 ≤ at → type_at next ≡ next_type
-type_behind at next n e low = by (next == 8) refl
+-- Past the first gate there are Nexts.
+pub type_past : (next : ℕ) → 8 < next → type_at next ≡ next_type
+type_past next past = by (next == 8) refl
   where
     by : (b : Bool) → (next == 8) ≡ b → cond b whole_type next_type ≡ next_type
-    by true is = let same = eqb-true next 8 is in absurd (omega (arith, same, e, low))
+    by true is = let same = eqb-true next 8 is in absurd (omega (arith, same, past))
     by false is = refl
 
 -- A shipping that has come past one record more.
@@ -203,7 +204,7 @@ one_further reads stored from way next frames ops some kept found serial on =
         let at : next.at ≡ slot_end (on.before ++ bytes ∷ []) =
         (let long = ap length same in let gate = end-push bytes on.before in let place = on.place in let behind = found.behind in omega (arith, long, gate, place, behind)) in
         let sort : type_at next.at ≡ next_type =
-        (let place = on.place in type_behind way.at next.at (length found.payload) found.behind (omega (arith, place))) in
+        (let place = on.place in let behind = found.behind in type_past next.at (omega (arith, place, behind))) in
         let later : List Shipment = shipments_from next_type (rows_behind rows bytes) more in
         let fresh : List Frame = frames_if from (length frames) (shipment_of way ops) in
         let parts : frames_of_all (length frames) (filter (is_from from) (shipment_of way ops ∷ later)) ≡ fresh ++ frames_of_all (length frames + length fresh) (filter (is_from from) later) =

@@ -1,9 +1,11 @@
 -- When shipping fails (docs/PROMISES.md, "Shipping").
-use Rattle.std.specs.Prelude.{◌≡◌, ℕ, ◌<◌, Bool, IsTrue, length, ⊤, None, Some, Ok, Err}
+use Rattle.std.specs.Prelude.{◌≡◌, ◌<◌, Bool, IsTrue, length, ⊤, None, Some, Ok, Err}
 use Rattle.std.specs.declared.option.Option.{Option}
 use Rattle.std.specs.declared.result.Result.{Result}
 use Rattle.ziti_outside.specs.declared.desk.Part.TheVariants.{Mark}
 use Rattle.ziti_outside.specs.Images.{Image}
+use Rattle.ziti_outside.specs.Untouched.{OnlyReads}
+use Rattle.ziti_outside.specs.Views.{Seen, Stopped}
 use Rattle.ctrl_model.specs.State.{State}
 use Rattle.ctrl_model.specs.ValidState.{ValidState}
 use Rattle.row_codec.specs.StateRows.{HasRows}
@@ -67,3 +69,8 @@ FindFails tells image NoMemory = ⊤
 abbrev pub IsOpenedBy : Image → Option Stored → Type 0
 IsOpenedBy image None = length (image Mark) ≡ 0
 IsOpenedBy image (Some stored) = (0 < stored.mark) × IsStoreOf image stored × IsOfState stored
+
+-- A folder was not found to open to a state, and nothing but reading was done.
+abbrev pub IsUnfound : {D : Type 0} → (tells : Bool) → (D → Seen) → (D → Stopped) → (old new : D) → Option ShipFault → Type 0
+IsUnfound tells seen stopped old new None = ⊥
+IsUnfound tells seen stopped old new (Some fault) = FindFails tells (seen old).reads fault × OnlyReads seen stopped old new

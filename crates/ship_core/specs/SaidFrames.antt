@@ -1,14 +1,20 @@
 -- What is said of frames on a desk from which the folder is read beside (docs/PROMISES.md, "Shipping").
-use Rattle.std.specs.Prelude.{◌≡◌, ℕ, ◌≤◌, List, ◌++◌, None, Some}
+use Rattle.std.specs.Prelude.{◌≡◌, ℕ, ◌≤◌, Bool, IsTrue, List, ◌++◌, None, Some}
 use Rattle.std.specs.declared.option.Option.{Option}
 use Rattle.ziti_outside.specs.Images.{Image}
 use Rattle.ziti_outside.specs.Moments.{Saying, Elapses, Remembers}
 use Rattle.ziti_outside.specs.Told.{Took, TookFront}
 use Rattle.ziti_outside.specs.Views.{Seen, Stopped}
 use Rattle.channel_frame.specs.declared.frames.Frame.{Frame}
+use Rattle.ctrl_model.specs.declared.formats.Format.{Format}
+use Rattle.ctrl_model.specs.State.{State}
+use Rattle.ctrl_model.specs.ValidState.{ValidState}
+use Rattle.row_codec.specs.StateRows.{HasRows}
+use Rattle.row_store.specs.OpenedStates.{byte_rows_of, OpensToState}
 use Rattle.ship_core.specs.declared.faults.ShipFault.{ShipFault}
-use Rattle.ship_core.specs.declared.faults.ShipFault.TheVariants.{Disk, Write, Damaged, NoMemory}
+use Rattle.ship_core.specs.declared.faults.ShipFault.TheVariants.{Write}
 use Rattle.ship_core.specs.Pieces.{written}
+use Rattle.ship_core.specs.Shipping.{AreShippedOf}
 
 -- Frames are the first of some, and all of them where nothing failed.
 abbrev pub AreFirst : Option ShipFault → (frames all : List Frame) → Type 0
@@ -27,6 +33,18 @@ pub record SaysFrames {D : Type 0} (seen : D → Seen) (stopped : D → Stopped)
   pub first : AreFirst fault frames all
   pub said : TookUnless fault (seen old).said (seen new).said (written frames)
   pub stops : Elapses (stopped old) (stopped new) (Saying (stopped old).images (seen old).said (written frames))
+
+-- A folder was found to have the rows of a valid state, of the one to which it opens where it is told. Then frames were said that are shipped
+-- from a serial on of a folder with these rows, as far as that is known of one that may not be told.
+pub record ShipsJudged {D : Type 0} (tells : Bool) (seen : D → Seen) (stopped : D → Stopped) (from : ℕ) (old new : D) (fault : Option ShipFault) : Type 0 where
+  pub state : State
+  pub valid : ValidState state
+  pub opens : IsTrue tells → OpensToState (seen old).reads state
+  pub format : Format
+  pub has : HasRows format state
+  pub all : List Frame
+  pub shipped : AreShippedOf from format (byte_rows_of format state) all
+  pub says : SaysFrames seen stopped old new fault all
 
 -- Replies were said and the folder was read, and nothing else was done on a desk: the notes are as they were, the folder reads as before, and a
 -- stop finds no image that it did not find before.

@@ -1,5 +1,5 @@
 -- The steps of shipping a folder, record by record (docs/PROMISES.md, "Shipping").
-use Rattle.std.specs.Prelude.{◌≡◌, ℕ, ◌+◌, ◌%◌, ◌^◌, ◌<◌, ◌==◌, Bool, cond, IsTrue, ⊤, List, [], ◌∷◌, ◌++◌, length, filter, IfOk, None, Some}
+use Rattle.std.specs.Prelude.{◌≡◌, ℕ, ◌+◌, ◌%◌, ◌^◌, ◌≤◌, ◌==◌, Bool, cond, IsTrue, ⊤, List, [], ◌∷◌, ◌++◌, length, filter, IfOk, None, Some}
 use Rattle.std.specs.declared.option.Option.{Option}
 use Rattle.std.specs.declared.result.Result.{Result}
 use Rattle.std.specs.Option.{unwrap_or}
@@ -12,16 +12,16 @@ use Rattle.channel_frame.specs.declared.frames.Frame.{Frame}
 use Rattle.journal_core.specs.Slots.{slot_end}
 use Rattle.slot_files.specs.FolderImage.{Stands}
 use Rattle.row_codec.specs.declared.changes.Op.{Op}
-use Rattle.row_codec.specs.Batches.{bytes_cmp, entry_of, batch_bytes}
+use Rattle.row_codec.specs.Batches.{bytes_cmp, entry_of, batch_bytes, IsBatch}
 use Rattle.slot_reading.specs.BatchRows.{serial_key, serial_in}
 use Rattle.ship_core.specs.declared.faults.ShipFault.{ShipFault}
-use Rattle.ship_core.specs.declared.faults.ShipFault.TheVariants.{Disk, Write, Damaged, NoMemory}
+use Rattle.ship_core.specs.declared.faults.ShipFault.TheVariants.{Damaged}
 use Rattle.ship_core.specs.declared.shipments.Shipment.{Shipment}
 use Rattle.ship_core.specs.declared.records.Way.{Way}
 use Rattle.ship_core.specs.Faults.{fault_of, disk_failure, write_failure}
 use Rattle.ship_core.specs.Pieces.{whole_type, next_type, frames_of, frames_of_all}
-use Rattle.ship_core.specs.SaidFrames.{AreFirst, SaysFrames, OnlyShips}
-use Rattle.ship_core.specs.Shipping.{is_from, serial_or_none, rows_behind_all, shipments_from, shipped}
+use Rattle.ship_core.specs.SaidFrames.{SaysFrames, OnlyShips}
+use Rattle.ship_core.specs.Shipping.{is_from, serial_or_none, rows_behind_all, shipments_from, shipments, shipped, AreSpelled}
 
 -- A step of shipping: what it said, that it did nothing else, and which fault it counted.
 pub record ShipsFrames {D : Type 0} (seen : D → Seen) (stopped : D → Stopped) (old new : D) (fault : Option ShipFault) (all : List Frame) : Type 0 where
@@ -62,9 +62,28 @@ pub record IsOnItsWay (reads : Image) (from : ℕ) (way : Way) (frames : List Fr
   pub left : frames ++ frames_of_all (length frames) (filter (is_from from) (shipments_from (type_at way.at) (rows_behind_all [] before) after))
       ≡ shipped from Two (before ++ after)
 
--- What a step past one record made: its frames, and how far the shipping has come.
+-- The content type of the batch behind some batches, where the first one of all has this: each later one is a Next.
+abbrev pub type_behind : (first : ℕ) → List (List ℕ) → ℕ
+type_behind first [] = first
+type_behind first (bytes ∷ more) = next_type
+
+-- A shipping from a serial on has come so far, whatever the folder reads: it read some batches, and of these it said these frames.
+pub record HasRead (from : ℕ) (way : Way) (frames : List Frame) : Type 0 where
+  pub batches : List (List ℕ)
+  pub spelled : AreSpelled batches
+  pub low : 8 ≤ way.at
+  pub sort : type_at way.at ≡ type_behind whole_type batches
+  pub serial : way.serial ≡ serial_or_none (rows_behind_all [] batches)
+  pub said : frames ≡ frames_of_all 0 (filter (is_from from) (shipments Two batches))
+
+-- What a step past one record made: its frames, and how far the shipping has come. They are those of a batch; where none was read there are none,
+-- as of the batch without operations.
 pub record Passes {D : Type 0} (tells : Bool) (seen : D → Seen) (stopped : D → Stopped) (from : ℕ) (way : Way) (old new : D) (result : Result Way ShipFault) (frames : List Frame) : Type 0 where
   pub all : List Frame
+  pub ops : List Op
+  pub batch : IsBatch ops
+  pub made : all ≡ frames_if from (length frames) (shipment_of way ops)
+  pub serial : IfOk result (λ next. next.serial ≡ serial_after way.serial ops)
   pub ships : ShipsFrames seen stopped old new (fault_of result) all
   pub sequence : IfOk result (λ next. next.sequence ≡ (length frames + length all) % 2 ^ 32)
   pub told : IsTrue tells → IsOnItsWay (seen old).reads from way frames → IfOk result (λ next. IsOnItsWay (seen old).reads from next (frames ++ all))

@@ -44,10 +44,11 @@ whole_two = piece_front 108 0 59 2 ++ compacted_batch
 abbrev pub whole_none : List ℕ
 whole_none = piece_front 108 0 28 0 ++ batch_of_ann format.One
 
--- A batch of the first format that puts a count of 3, and the same in the second one.
+-- A batch of the first format that puts a count of 3: its value has four bytes.
 abbrev pub wide_count : List ℕ
 wide_count = 1 ∷ 9 ∷ 12 ∷ 0 ∷ 0 ∷ 0 ∷ 1 ∷ 0 ∷ 0 ∷ 0 ∷ 1 ∷ 4 ∷ 0 ∷ 0 ∷ 0 ∷ 3 ∷ 0 ∷ 0 ∷ 0 ∷ []
 
+-- The same in the second format: the value has two bytes.
 abbrev pub narrow_count : List ℕ
 narrow_count = 1 ∷ 9 ∷ 12 ∷ 0 ∷ 0 ∷ 0 ∷ 1 ∷ 0 ∷ 0 ∷ 0 ∷ 1 ∷ 2 ∷ 0 ∷ 0 ∷ 0 ∷ 3 ∷ 0 ∷ []
 

@@ -62,6 +62,7 @@ fn mark_len<D: Desk>(desk: &mut D) -> Result<u64, ShipFault>
 /// The store of a folder that opens to a state, by reading alone; none where its mark is empty, and then the state is that at the start.
 pub(crate) fn open<D: Desk>(alloc: Global, desk: &mut D) -> Result<Option<Store>, ShipFault>
     ensures opens { IfOk result (λ found. IsTrue D.tells → IsOpenedBy (D.seen desk.old).reads found) }
+    ensures state { IfOk result (λ found. IfSome found IsOfState) }
     ensures fresh { IfOk result (λ found. IfSome found (λ store. store.spent ≡ false)) }
     ensures fault { IfErr result (λ fault. FindFails D.tells (D.seen desk.old).reads fault) }
     ensures cause { HasCause (D.seen desk.old).disk_faults (D.seen desk.new).disk_faults (disk_failure (fault_of result)) }

@@ -12,7 +12,10 @@ mod shipping;
 mod worked;
 
 pub use faults::ShipFault;
-pub use laws::pieces_make_the_batch;
+pub use laws::{
+    old_folders_ship_their_state, pieces_make_the_batch, serials_follow,
+    shipped_frames_are_read_again, shipped_leads_to_the_rows,
+};
 pub use pieces::{NEXT, WHOLE};
 pub use shipments::Shipment;
 pub use shipping::ship;

@@ -1,20 +1,15 @@
-ghost use Rattle.std.specs.Prelude.{◌≡◌, ◌⊎◌, ◌<◌, ℕ, List, [], map, false, length, IsTrue, IfErr, IsErrOf};
+ghost use Rattle.std.specs.Prelude.{◌≡◌, ◌⊎◌, ◌<◌, ℕ, List, [], filter, false, length, IsTrue, IfErr, IsErrOf};
 ghost use Rattle.ziti_outside.specs.declared.desk.Part.{Part};
 ghost use Rattle.ziti_outside.specs.Causes.{HasCause};
-ghost use Rattle.ziti_outside.specs.Untouched.{OnlyReads};
-ghost use Rattle.ctrl_model.specs.State.{State};
 ghost use Rattle.ctrl_model.specs.declared.formats.Format.{Format};
 ghost use Rattle.ctrl_model.specs.declared.formats.Format.TheVariants as formats;
 ghost use Rattle.channel_frame.specs.declared.frames.Frame.{Frame};
 ghost use Rattle.slot_files.specs.FolderImage.{Stands};
-ghost use Rattle.row_codec.specs.NarrowedRows.{narrowed};
-ghost use Rattle.row_store.specs.RewrittenStores.{compacted};
-ghost use Rattle.row_store.specs.OpenedStates.{OpensToState};
 ghost use Rattle.row_store.specs.StoredRows.{IsStoreOf};
-ghost use Rattle.ship_core.specs.Faults.{fault_of, disk_failure, write_failure, Judges};
+ghost use Rattle.ship_core.specs.Faults.{fault_of, disk_failure, write_failure, Judges, IsUnfound};
 ghost use Rattle.ship_core.specs.Pieces.{frames_of_all};
-ghost use Rattle.ship_core.specs.SaidFrames.{SaysFrames, OnlyShips};
-ghost use Rattle.ship_core.specs.Shipping.{old_whole, chosen, shipped};
+ghost use Rattle.ship_core.specs.SaidFrames.{SaysFrames, ShipsJudged, OnlyShips};
+ghost use Rattle.ship_core.specs.Shipping.{old_shipments, shipments, is_from, chosen, shipped, AreSpelled, AreShippedOf};
 ghost use Rattle.ship_core.specs.Steps.{ShipsFrames, IsUndamaged};
 
 use crate::faults::ShipFault;
@@ -34,7 +29,7 @@ use ziti_outside::Desk;
 fn ship_old<D: Desk>(alloc: Global, desk: &mut D, store: &Store, from: u64) -> Result<(), ShipFault>
     requires { store.now.spent ≡ false }
     ensures ships { ShipsFrames D.seen D.stopped desk.old desk.new (fault_of result)
-        (frames_of_all 0 (chosen from (map old_whole (compacted (map narrowed store.now.rows))))) }
+        (frames_of_all 0 (chosen from (old_shipments store.now.rows))) }
     ensures fault { IfErr result IsUndamaged }
 {
     if from > 0 {
@@ -66,7 +61,8 @@ fn ship_kept<D: Desk>(
     requires format { store.now.format ≡ formats.Two }
     ensures told { IsTrue D.tells → (batches : List (List ℕ)) → Stands formats.Two (D.seen desk.old).reads batches
         → ShipsFrames D.seen D.stopped desk.old desk.new (fault_of result) (shipped from formats.Two batches) }
-    ensures ships { (frames : List Frame) × ShipsFrames D.seen D.stopped desk.old desk.new (fault_of result) frames }
+    ensures ships { (batches : List (List ℕ)) × AreSpelled batches
+        × ShipsFrames D.seen D.stopped desk.old desk.new (fault_of result) (frames_of_all 0 (filter (is_from from) (shipments formats.Two batches))) }
     ensures fault { IfErr result (λ fault. IsTrue D.tells → IsUndamaged fault) }
 {
     let (_, end) = store.end();
@@ -93,7 +89,8 @@ fn ship_store<D: Desk>(
     requires fresh { store.now.spent ≡ false }
     ensures told { IsTrue D.tells → (format : Format) (batches : List (List ℕ)) → Stands format (D.seen desk.old).reads batches
         → ShipsFrames D.seen D.stopped desk.old desk.new (fault_of result) (shipped from format batches) }
-    ensures ships { (frames : List Frame) × ShipsFrames D.seen D.stopped desk.old desk.new (fault_of result) frames }
+    ensures ships { (frames : List Frame) × AreShippedOf from store.now.format store.now.rows frames
+        × ShipsFrames D.seen D.stopped desk.old desk.new (fault_of result) frames }
     ensures fault { IfErr result (λ fault. IsTrue D.tells → IsUndamaged fault) }
 {
     match store.format() {
@@ -107,13 +104,15 @@ fn ship_store<D: Desk>(
 ///
 /// Where nothing fails exactly these frames are said, and else the first of them, each whole; where a say failed a front of the first
 /// ones. `Damaged` comes exactly where the folder opens to no state, with the first place at which it is damaged. Nothing is said of a folder
-/// that opens to no state, whatever failed. Where the folder is not told `Damaged` may come behind some frames too.
+/// that opens to no state, whatever failed. Where the folder is not told `Damaged` may come behind some frames too. What is said of it are frames
+/// of batches that can be spelled, numbered and in order, behind a valid state whose rows the folder was found to have.
 pub fn ship<D: Desk>(alloc: Global, desk: &mut D, from: u64) -> Result<(), ShipFault>
     ensures says { IsTrue D.tells → (format : Format) (batches : List (List ℕ)) → Stands format (D.seen desk.old).reads batches
         → SaysFrames D.seen D.stopped desk.old desk.new (fault_of result) (shipped from format batches) }
     ensures frames { (frames : List Frame) × SaysFrames D.seen D.stopped desk.old desk.new (fault_of result) frames }
     ensures judges { IsTrue D.tells → Judges (D.seen desk.old).reads (fault_of result) }
-    ensures opens { OnlyReads D.seen D.stopped desk.old desk.new ⊎ (IsTrue D.tells → (s : State) × OpensToState (D.seen desk.old).reads s) }
+    ensures opens { IsUnfound D.tells D.seen D.stopped desk.old desk.new (fault_of result)
+        ⊎ ShipsJudged D.tells D.seen D.stopped from desk.old desk.new (fault_of result) }
     ensures silent { IsTrue D.tells → (part : Part) (at : ℕ) → IsErrOf result (ShipFault.Damaged part at) → (D.seen desk.new).said ≡ (D.seen desk.old).said }
     ensures alone { OnlyShips D.seen D.stopped desk.old desk.new }
     ensures write_cause { HasCause (D.seen desk.old).say_faults (D.seen desk.new).say_faults (write_failure (fault_of result)) }

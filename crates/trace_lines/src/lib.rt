@@ -17,6 +17,6 @@ mod worked;
 pub use laws::{each_session_sends_its_frames, what_is_traced_reads_back};
 pub use replies::ReplyFault;
 pub use said::{Said, TraceCause, TraceFault, TraceLine};
-pub use telling::{ToldReplies, tell_replies};
+pub use telling::{ReplyTelling, ToldReplies, tell_replies};
 pub use tracing::{Traced, trace};
 pub use worked::{worked_lines, worked_replies, worked_roles, worked_trace};

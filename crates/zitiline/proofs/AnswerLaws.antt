@@ -1,6 +1,6 @@
 -- What the answer to an input is, and what saying it did.
 use Rattle.std.specs.Prelude.{MatchOption, IsSomeAnd}
-use Rattle.std.proofs.Common.{◌≡◌, ℕ, List, [], None, Some, Result, IfOk, sym, ap, ◌∙◌, subst}
+use Rattle.std.proofs.Common.{◌≡◌, ℕ, List, [], None, Some, Result, IfOk, sym, ap, ◌∙◌, subst, inr}
 use Rattle.std.proofs.lemmas.Result.{IfOk-weaker}
 use Rattle.std.specs.declared.alloc.AllocError.{AllocError}
 use Rattle.std.specs.declared.option.Option.{Option}
@@ -10,37 +10,41 @@ use Rattle.ziti_outside.specs.Told.{Took, TookFront}
 use Rattle.ziti_outside.specs.Views.{Seen}
 use Rattle.zitiline.specs.declared.answers.Answer.{Answer}
 use Rattle.zitiline.specs.declared.answers.Fault.{Fault}
+use Rattle.zitiline.specs.declared.answers.Fault.TheVariants.{Reply}
+use Rattle.trace_lines.specs.declared.replies.ReplyFault.{ReplyFault}
+use Rattle.trace_lines.specs.TraceTexts.{reply_text}
 use Rattle.zitiline.specs.declared.status.Status.{Status}
-use Rattle.zitiline.specs.declared.status.Status.TheVariants.{WriteFault}
-use Rattle.zitiline.specs.declared.words.Form.{Form}
+use Rattle.zitiline.specs.declared.status.Status.TheVariants.{Done, BadInput, WriteFault}
+use Rattle.zitiline.specs.declared.words.Whole.{Whole}
+use Rattle.zitiline.specs.declared.words.Form.TheVariants as form
 use Rattle.zitiline.specs.Answers.{said_of, fault_of, status_for}
 use Rattle.zitiline.specs.Notes.{note_of, notes_of, fault_note, NotesLines}
-use Rattle.zitiline.specs.Steps.{fault_text, note_bytes, note_in, answer_notes, IsAnswer, SaysAnswer}
+use Rattle.zitiline.specs.Steps.{fault_text, note_bytes, note_in, answer_notes, IsAnswer, SaysAnswer, EndsTold}
 
 -- A fault of a form is one of all forms.
-one_of_all : {F : Type 0} (of : F → Fault) (fault : Option F) (told : Option Fault) → MatchOption fault (told ≡ None) (λ f. IsSomeAnd told (λ g. g ≡ of f)) → told ≡ option_map of fault
+pub one_of_all : {F : Type 0} (of : F → Fault) (fault : Option F) (told : Option Fault) → MatchOption fault (told ≡ None) (λ f. IsSomeAnd told (λ g. g ≡ of f)) → told ≡ option_map of fault
 one_of_all of None told is = is
 one_of_all of (Some f) None is = absurd is
 one_of_all of (Some f) (Some g) is = ap Some is
 
 -- What is said of an input, with the note of its fault, is the answer to it.
-answers_with : {F : Type 0} (of : F → Fault) (words : F → List ℕ) (form : Form) (input : List ℕ) (fault : Option F) (told : Option Fault) (a : Answer) → ((f : F) → fault_text (of f) ≡ words f)
-    → fault_of form input ≡ option_map words fault → told ≡ option_map of fault → a.said ≡ said_of form input → note_in a ≡ option_map (λ f. note_of (fault_text f)) told → IsAnswer form input a
-answers_with of words form input None told a same has is says notes =
+answers_with : {F : Type 0} (of : F → Fault) (words : F → List ℕ) (w : Whole) (input : List ℕ) (fault : Option F) (told : Option Fault) (a : Answer) → ((f : F) → fault_text (of f) ≡ words f)
+    → fault_of (form.Whole w) input ≡ option_map words fault → told ≡ option_map of fault → a.said ≡ said_of (form.Whole w) input → note_in a ≡ option_map (λ f. note_of (fault_text f)) told → IsAnswer w input a
+answers_with of words w input None told a same has is says notes =
     let none : note_in a ≡ None = notes ∙ ap (option_map (λ (f : Fault). note_of (fault_text f))) is in
     record { said = says; note = ap note_bytes none ∙ sym (ap fault_note has); status = ap status_for none ∙ sym (ap status_for has) }
-answers_with of words form input (Some f) told a same has is says notes =
+answers_with of words w input (Some f) told a same has is says notes =
     let some : note_in a ≡ Some (note_of (words f)) = notes ∙ ap (option_map (λ (g : Fault). note_of (fault_text g))) is ∙ ap (λ (text : List ℕ). Some (note_of text)) (same f) in
     record { said = says; note = ap note_bytes some ∙ sym (ap fault_note has); status = ap status_for some ∙ sym (ap status_for has) }
 
 -- So is one that was made, of the form that was asked for.
-pub is_answered : {F : Type 0} (of : F → Fault) (words : F → List ℕ) (form asked : Form) (input said : List ℕ) (fault : Option F) (told : Option Fault) (made : Result Answer AllocError)
-    → ((f : F) → fault_text (of f) ≡ words f) → asked ≡ form → said ≡ said_of form input → fault_of form input ≡ option_map words fault
+pub is_answered : {F : Type 0} (of : F → Fault) (words : F → List ℕ) (w asked : Whole) (input said : List ℕ) (fault : Option F) (told : Option Fault) (made : Result Answer AllocError)
+    → ((f : F) → fault_text (of f) ≡ words f) → asked ≡ w → said ≡ said_of (form.Whole w) input → fault_of (form.Whole w) input ≡ option_map words fault
     → MatchOption fault (told ≡ None) (λ f. IsSomeAnd told (λ g. g ≡ of f))
     → IfOk made (λ a. (a.said ≡ said) × (note_in a ≡ option_map (λ f. note_of (fault_text f)) told)) → IfOk made (λ a. IsAnswer asked input a)
-is_answered of words form asked input said fault told made same asks says has each =
+is_answered of words w asked input said fault told made same asks says has each =
     IfOk-weaker made (λ a. (a.said ≡ said) × (note_in a ≡ option_map (λ f. note_of (fault_text f)) told)) (λ a. IsAnswer asked input a)
-    (λ a is. subst (λ (f : Form). IsAnswer f input a) (sym asks) (answers_with of words form input fault told a same has (one_of_all of fault told each) (is.0 ∙ says) is.1))
+    (λ a is. subst (λ (v : Whole). IsAnswer v input a) (sym asks) (answers_with of words w input fault told a same has (one_of_all of fault told each) (is.0 ∙ says) is.1))
 
 -- An answer that was said ends as its note decides.
 pub says_by : (a : Answer) (note : Option (List ℕ)) (status : Status) (before now : Option (List ℕ)) → note_in a ≡ note → status ≡ status_for note → Took before now a.said
@@ -73,3 +77,21 @@ pub noted_cut : (a : Answer) (status : Status) (old mid new : Seen) → status �
     → NotesLines (notes_of None WriteFault) mid new → NotesLines (answer_notes a status) old new
 noted_cut a status old mid new ends q r noted =
     subst (λ (s : Status). NotesLines (answer_notes a s) old new) (sym ends) (notes_from (notes_of None WriteFault) old mid new q r noted)
+
+-- The fault of an input that was told as it came, noted.
+pub ends_noted : (fault : Option ReplyFault) (told : Option Fault) (note : Option (List ℕ)) (old new : Seen) (status : Status) → told ≡ option_map Reply fault
+    → note ≡ option_map (λ f. note_of (fault_text f)) told → status ≡ status_for note → NotesLines (note_bytes note) old new → EndsTold fault old new status
+ends_noted None told note old new status is same ends noted =
+    let none : note ≡ None = same ∙ ap (option_map (λ (f : Fault). note_of (fault_text f))) is in
+    let done : status ≡ Done = ends ∙ ap status_for none in
+    record {
+      ends = inr done;
+      notes = subst (λ (s : Status). NotesLines (notes_of None s) old new) (sym done) (subst (λ (n : Option (List ℕ)). NotesLines (note_bytes n) old new) none noted);
+    }
+ends_noted (Some f) told note old new status is same ends noted =
+    let some : note ≡ Some (note_of (reply_text f)) = same ∙ ap (option_map (λ (g : Fault). note_of (fault_text g))) is in
+    let bad : status ≡ BadInput = ends ∙ ap status_for some in
+    record {
+      ends = inr bad;
+      notes = subst (λ (s : Status). NotesLines (notes_of (Some (reply_text f)) s) old new) (sym bad) (subst (λ (n : Option (List ℕ)). NotesLines (note_bytes n) old new) some noted);
+    }

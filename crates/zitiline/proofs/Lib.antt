@@ -1,3 +1,4 @@
 pub mod SaidLaws
 pub mod AnswerLaws
 pub mod PageLaws
+pub mod TurnLaws

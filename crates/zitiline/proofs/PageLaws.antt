@@ -4,7 +4,9 @@ use Rattle.std.specs.declared.option.Option.{Option}
 use Rattle.ziti_outside.specs.Told.{Took, TookFront}
 use Rattle.ziti_outside.specs.Views.{Outside, Seen}
 use Rattle.zitiline.specs.declared.words.Page.{Page}
+use Rattle.live_lines.specs.declared.kinds.Kind.{Kind}
 use Rattle.zitiline.specs.declared.words.Asked.TheVariants.{Turn, Tell}
+use Rattle.zitiline.specs.declared.words.Form.TheVariants as form
 use Rattle.zitiline.specs.declared.status.Status.{Status}
 use Rattle.zitiline.specs.declared.status.Status.TheVariants.{Done, Usage, BadInput, ReadFault, WriteFault, NoMemory}
 use Rattle.zitiline.specs.Notes.{notes_of, NotesLines}
@@ -33,17 +35,18 @@ same_page : (page other : Page) → Some (Tell page) ≡ Some (Tell other) → p
 same_page page other is = cc
 
 -- A run that was asked for a page, by how it ended.
-pub page_runs : {S D : Type 0} (outside : Outside S D) (page : Page) (source : S) (old new : D) (status : Status) → TellsPage page (outside.seen old) (outside.seen new) status
+pub page_runs : {S D : Type 0} (outside : Outside S D) (page : Page) (source : S) (old new : D) (takes : List (S × D)) (status : Status) → TellsPage page (outside.seen old) (outside.seen new) status
     → IsWriteCaused (outside.seen old).say_faults (outside.seen new).say_faults status → LeavesFolder outside.seen outside.stopped old new
-    → Runs outside (Some (Tell page)) source source old new status
-page_runs outside page source old new Done told caused left = record {
+    → Runs outside (Some (Tell page)) source source old new takes takes status
+page_runs outside page source old new takes Done told caused left = record {
   usage = ((λ (e : Done ≡ Usage). absurd cc), (λ (e : Some (Tell page) ≡ None). absurd cc));
   usage_takes_nothing = λ e. refl;
   usage_says_nothing = λ (e : Some (Tell page) ≡ None). absurd cc;
   usage_note = λ (e : Some (Tell page) ≡ None). absurd cc;
   page_takes_nothing = λ other e. refl;
   pages = λ other e. subst (λ (p : Page). TellsPage p (outside.seen old) (outside.seen new) Done) (same_page page other e) told;
-  answers = λ form (e : Some (Tell page) ≡ Some (Turn form)). absurd cc;
+  answers = λ of (e : Some (Tell page) ≡ Some (Turn of)). absurd cc;
+  in_time = λ (kind : Kind) (e : Some (Tell page) ≡ Some (Turn (form.Live kind))). absurd cc;
   read_fault = λ (e : Done ≡ ReadFault). absurd cc;
   no_read_fault = λ none. refl;
   write_fault = λ (e : Done ≡ WriteFault). absurd cc;
@@ -52,17 +55,18 @@ page_runs outside page source old new Done told caused left = record {
   found = left.found;
   failed_calls = left.failed_calls;
 }
-page_runs outside page source old new Usage told caused left = absurd told.says
-page_runs outside page source old new BadInput told caused left = absurd told.says
-page_runs outside page source old new ReadFault told caused left = absurd told.says
-page_runs outside page source old new WriteFault told caused left = record {
+page_runs outside page source old new takes Usage told caused left = absurd told.says
+page_runs outside page source old new takes BadInput told caused left = absurd told.says
+page_runs outside page source old new takes ReadFault told caused left = absurd told.says
+page_runs outside page source old new takes WriteFault told caused left = record {
   usage = ((λ (e : WriteFault ≡ Usage). absurd cc), (λ (e : Some (Tell page) ≡ None). absurd cc));
   usage_takes_nothing = λ e. refl;
   usage_says_nothing = λ (e : Some (Tell page) ≡ None). absurd cc;
   usage_note = λ (e : Some (Tell page) ≡ None). absurd cc;
   page_takes_nothing = λ other e. refl;
   pages = λ other e. subst (λ (p : Page). TellsPage p (outside.seen old) (outside.seen new) WriteFault) (same_page page other e) told;
-  answers = λ form (e : Some (Tell page) ≡ Some (Turn form)). absurd cc;
+  answers = λ of (e : Some (Tell page) ≡ Some (Turn of)). absurd cc;
+  in_time = λ (kind : Kind) (e : Some (Tell page) ≡ Some (Turn (form.Live kind))). absurd cc;
   read_fault = λ (e : WriteFault ≡ ReadFault). absurd cc;
   no_read_fault = λ none. refl;
   write_fault = caused.rose;
@@ -71,4 +75,4 @@ page_runs outside page source old new WriteFault told caused left = record {
   found = left.found;
   failed_calls = left.failed_calls;
 }
-page_runs outside page source old new NoMemory told caused left = absurd told.says
+page_runs outside page source old new takes NoMemory told caused left = absurd told.says

@@ -4,33 +4,31 @@ use Rattle.std.specs.declared.option.Option.{Option}
 use Rattle.std.specs.Option.{option_map}
 use Rattle.frame_lines.specs.TextReading.{bytes_said, fault_said}
 use Rattle.frame_lines.specs.TextFaults.{faults_told}
-use Rattle.frame_lines.specs.TextTelling.{text_told, fault_told}
-use Rattle.frame_lines.specs.FaultTexts.{line_text, frame_text}
+use Rattle.frame_lines.specs.FaultTexts.{line_text}
 use Rattle.trace_lines.specs.SessionActs.{fault_traced}
 use Rattle.trace_lines.specs.ActRecords.{bytes_traced}
-use Rattle.trace_lines.specs.TaggedReplies.{replies_told, replies_fault}
 use Rattle.trace_lines.specs.TraceTexts.{trace_text, reply_text}
+use Rattle.live_lines.specs.LiveLines as live
 use Rattle.zitiline.specs.declared.words.Form.{Form}
-use Rattle.zitiline.specs.declared.words.Form.TheVariants.{Encode, Decode, Trace, Replies, Check}
+use Rattle.zitiline.specs.declared.words.Form.TheVariants.{Whole, Live}
+use Rattle.zitiline.specs.declared.words.Whole.TheVariants.{Encode, Trace, Check}
 use Rattle.zitiline.specs.declared.status.Status.{Status}
 use Rattle.zitiline.specs.declared.status.Status.TheVariants.{Done, BadInput}
 
--- What is said: the frames of the lines, the lines of the frames, the trace of the lines, or the lines of the tagged replies, up to the
--- first fault; or all faults of the lines.
+-- What is said: the frames of the lines, the trace of the lines, or the lines of the frames or of the tagged replies, up to the first fault;
+-- or all faults of the lines.
 abbrev pub said_of : Form → List ℕ → List ℕ
-said_of Encode input = bytes_said input
-said_of Decode input = text_told input
-said_of Trace input = bytes_traced input
-said_of Replies input = replies_told input
-said_of Check input = faults_told input
+said_of (Whole Encode) input = bytes_said input
+said_of (Whole Trace) input = bytes_traced input
+said_of (Whole Check) input = faults_told input
+said_of (Live kind) input = live.text_of kind input
 
 -- The fault in words, if the input has one. A text that is checked has the one at which its encoding ends.
 abbrev pub fault_of : Form → List ℕ → Option (List ℕ)
-fault_of Encode input = option_map line_text (fault_said input)
-fault_of Decode input = option_map frame_text (fault_told input)
-fault_of Trace input = option_map trace_text (fault_traced input)
-fault_of Replies input = option_map reply_text (replies_fault input)
-fault_of Check input = option_map line_text (fault_said input)
+fault_of (Whole Encode) input = option_map line_text (fault_said input)
+fault_of (Whole Trace) input = option_map trace_text (fault_traced input)
+fault_of (Whole Check) input = option_map line_text (fault_said input)
+fault_of (Live kind) input = option_map reply_text (live.fault_of kind input)
 
 -- The status that a fault decides.
 abbrev pub status_for : Option (List ℕ) → Status

@@ -14,9 +14,9 @@ abbrev pub page_text : Page → List ℕ
 page_text Help =
     codes "usage: zitiline WORD, with input and output redirected\n"
     ++ (codes "encode   lines to frames\n"
-    ++ (codes "decode   frames to lines\n"
+    ++ (codes "decode   frames to lines, as they come\n"
     ++ (codes "trace    lines of sessions to a trace\n"
-    ++ (codes "replies  tagged replies to lines\n"
+    ++ (codes "replies  tagged replies to lines, as they come\n"
     ++ (codes "check    lines to all faults that they have for encode\n"
     ++ (codes "help     these lines\n"
     ++ codes "version  the version of the lines\n"))))))

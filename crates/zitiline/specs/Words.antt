@@ -4,14 +4,16 @@ use Rattle.std.specs.declared.option.Option.{Option}
 use Rattle.std.specs.Str.{bytes_eq}
 use Rattle.zitiline.specs.declared.words.Asked.{Asked}
 use Rattle.zitiline.specs.declared.words.Asked.TheVariants.{Turn, Tell}
-use Rattle.zitiline.specs.declared.words.Form.TheVariants.{Encode, Decode, Trace, Replies, Check}
+use Rattle.live_lines.specs.declared.kinds.Kind.TheVariants.{Frames, Replies}
+use Rattle.zitiline.specs.declared.words.Form.TheVariants.{Whole, Live}
+use Rattle.zitiline.specs.declared.words.Whole.TheVariants.{Encode, Trace, Check}
 use Rattle.zitiline.specs.declared.words.Page.TheVariants.{Help, Version}
 
 -- The words, each with what it asks for.
 abbrev pub known_words : List (List ℕ × Asked)
 known_words =
-    (codes "encode", Turn Encode) ∷ (codes "decode", Turn Decode) ∷ (codes "trace", Turn Trace) ∷ (codes "replies", Turn Replies)
-    ∷ (codes "check", Turn Check) ∷ (codes "help", Tell Help) ∷ (codes "version", Tell Version) ∷ []
+    (codes "encode", Turn (Whole Encode)) ∷ (codes "decode", Turn (Live Frames)) ∷ (codes "trace", Turn (Whole Trace))
+    ∷ (codes "replies", Turn (Live Replies)) ∷ (codes "check", Turn (Whole Check)) ∷ (codes "help", Tell Help) ∷ (codes "version", Tell Version) ∷ []
 
 -- What a word asks for, if it is one of some.
 abbrev pub asked_among : List (List ℕ × Asked) → List ℕ → Option Asked

@@ -5,11 +5,11 @@ ghost use Rattle.zitiline.specs.Notes.{note_of};
 ghost use Rattle.zitiline.specs.Steps.{IsAnswer, fault_text, note_in};
 
 use crate::notes::fault_note;
-use crate::words::Form;
+use crate::words::Whole;
 use ctrl_model::Bytes;
-use frame_lines::{DecodeFault, LineFault, check, decode, encode};
+use frame_lines::{LineFault, check, encode};
 use std::alloc::{AllocError, Global};
-use trace_lines::{ReplyFault, TraceFault, tell_replies, trace};
+use trace_lines::{ReplyFault, TraceFault, trace};
 
 /// What is said of an input, and the note of its fault, if it has one.
 #[derive(Drop)]
@@ -22,7 +22,6 @@ pub struct Answer {
 #[derive(Clone, Copy)]
 pub enum Fault {
     Line(LineFault),
-    Frame(DecodeFault),
     Trace(TraceFault),
     Reply(ReplyFault),
 }
@@ -32,13 +31,13 @@ fn text_of(alloc: Global, fault: &Fault) -> Result<String, AllocError>
 {
     match fault {
         Fault::Line(fault) => fault.text(alloc),
-        Fault::Frame(fault) => fault.text(alloc),
         Fault::Trace(fault) => fault.text(alloc),
         Fault::Reply(fault) => fault.text(alloc),
     }
 }
 
-fn note_of(alloc: Global, fault: Option<Fault>) -> Result<Option<String>, AllocError>
+/// The note of a fault, if there is one.
+pub fn note_of(alloc: Global, fault: Option<Fault>) -> Result<Option<String>, AllocError>
     ensures { IfOk result (λ note. option_map string_bytes note ≡ option_map (λ f. note_of (fault_text f)) fault) }
 {
     let Some(fault) = fault else {
@@ -56,28 +55,20 @@ fn answer_with(alloc: Global, said: Bytes, fault: Option<Fault>) -> Result<Answe
     Ok(Answer { said, note })
 }
 
-/// What is said of an input, and the note of its fault.
-pub fn answer_to(alloc: Global, form: Form, input: &[u8]) -> Result<Answer, AllocError>
-    ensures { IfOk result (λ a. IsAnswer form input.now a) }
+/// What is said of an input that was read whole, and the note of its fault.
+pub fn answer_to(alloc: Global, whole: Whole, input: &[u8]) -> Result<Answer, AllocError>
+    ensures { IfOk result (λ a. IsAnswer whole input.now a) }
 {
-    match form {
-        Form::Encode => {
+    match whole {
+        Whole::Encode => {
             let encoded = encode(alloc, input)?;
             answer_with(alloc, encoded.bytes, encoded.fault.map(Fault::Line))
         }
-        Form::Decode => {
-            let decoded = decode(alloc, input)?;
-            answer_with(alloc, decoded.text, decoded.fault.map(Fault::Frame))
-        }
-        Form::Trace => {
+        Whole::Trace => {
             let traced = trace(alloc, input)?;
             answer_with(alloc, traced.bytes, traced.fault.map(Fault::Trace))
         }
-        Form::Replies => {
-            let told = tell_replies(alloc, input)?;
-            answer_with(alloc, told.text, told.fault.map(Fault::Reply))
-        }
-        Form::Check => {
+        Whole::Check => {
             let checked = check(alloc, input)?;
             answer_with(alloc, checked.told, checked.fault.map(Fault::Line))
         }

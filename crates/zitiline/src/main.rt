@@ -15,12 +15,14 @@ ghost use Rattle.std.specs.Prelude.{◌≡◌, ◌≢◌, None, IfOk, IfErr, map
 ghost use Rattle.std.specs.Process.{exit_status};
 ghost use Rattle.std.specs.IoError.{error_kind};
 ghost use Rattle.std.specs.String.{string_bytes};
+ghost use Rattle.live_lines.specs.Exchanges.{source_of, takes_of};
 ghost use Rattle.zitiline.specs.Words.{asked_of};
 ghost use Rattle.zitiline.specs.Headline.{Runs};
 ghost use Rattle.zitiline.specs.Statuses.{number_of};
 
 use crate::running::run;
 use crate::status::Status;
+use live_lines::Exchange;
 use program_words::asked_words;
 use std::alloc::{AllocError, Global};
 use std::io::ErrorKind;
@@ -40,19 +42,18 @@ fn given_words(rt: &HostRuntime) -> io::Result<Vec<String>> {
 fn run_given<S: Source, D: Desk>(
     alloc: Global,
     given: io::Result<Vec<String>>,
-    source: &mut S,
-    desk: &mut D,
+    exchange: &mut Exchange<S, D>,
 ) -> Status
     ensures words { IfOk given (λ words. Runs (record { left = S.left; faults = S.faults; tells = D.tells; seen = D.seen; stopped = D.stopped })
-        (asked_of (map string_bytes (drop 1 words.items))) source.old source.new desk.old desk.new result) }
+        (asked_of (map string_bytes (drop 1 words.items))) (source_of exchange.old) (source_of exchange.new) exchange.old.desk exchange.new.desk (takes_of exchange.old) (takes_of exchange.new) result) }
     ensures no_text { IfErr given (λ error. error_kind error ≢ ErrorKind.OutOfMemory
         → Runs (record { left = S.left; faults = S.faults; tells = D.tells; seen = D.seen; stopped = D.stopped })
-        None source.old source.new desk.old desk.new result) }
+        None (source_of exchange.old) (source_of exchange.new) exchange.old.desk exchange.new.desk (takes_of exchange.old) (takes_of exchange.new) result) }
     ensures no_memory { IfErr given (λ error. error_kind error ≡ ErrorKind.OutOfMemory
-        → (result ≡ Status.NoMemory) × (source.new ≡ source.old) × (desk.new ≡ desk.old)) }
+        → (result ≡ Status.NoMemory) × (exchange.new ≡ exchange.old)) }
 {
     match asked_words(alloc, given) {
-        Ok(words) => run(alloc, words.as_slice(), source, desk),
+        Ok(words) => run(alloc, words.as_slice(), exchange),
         Err(AllocError) => Status::NoMemory,
     }
 }
@@ -68,26 +69,26 @@ fn exit_code(status: Status) -> ExitCode
 fn ends<S: Source, D: Desk>(
     alloc: Global,
     given: io::Result<Vec<String>>,
-    source: &mut S,
-    desk: &mut D,
+    exchange: &mut Exchange<S, D>,
 ) -> ExitCode
     ensures words { IfOk given (λ words. (status : Status) × Runs (record { left = S.left; faults = S.faults; tells = D.tells; seen = D.seen; stopped = D.stopped })
-        (asked_of (map string_bytes (drop 1 words.items))) source.old source.new desk.old desk.new status × (exit_status result ≡ number_of status)) }
+        (asked_of (map string_bytes (drop 1 words.items))) (source_of exchange.old) (source_of exchange.new) exchange.old.desk exchange.new.desk (takes_of exchange.old) (takes_of exchange.new) status × (exit_status result ≡ number_of status)) }
     ensures no_text { IfErr given (λ error. error_kind error ≢ ErrorKind.OutOfMemory
         → (status : Status) × Runs (record { left = S.left; faults = S.faults; tells = D.tells; seen = D.seen; stopped = D.stopped })
-        None source.old source.new desk.old desk.new status × (exit_status result ≡ number_of status)) }
+        None (source_of exchange.old) (source_of exchange.new) exchange.old.desk exchange.new.desk (takes_of exchange.old) (takes_of exchange.new) status × (exit_status result ≡ number_of status)) }
     ensures no_memory { IfErr given (λ error. error_kind error ≡ ErrorKind.OutOfMemory
-        → (exit_status result ≡ number_of Status.NoMemory) × (source.new ≡ source.old) × (desk.new ≡ desk.old)) }
+        → (exit_status result ≡ number_of Status.NoMemory) × (exchange.new ≡ exchange.old)) }
 {
-    exit_code(run_given(alloc, given, source, desk))
+    exit_code(run_given(alloc, given, exchange))
 }
 
 fn main(rt: HostRuntime) -> ExitCode {
     let errors = rt.stderr();
     let said = Writes::new(io::writer(&rt));
     let notes = Writes::new(io::writer(&errors));
-    let mut source = FileSource::new(rt.reader());
+    let source = FileSource::new(rt.reader());
     let folder = Folder::new(&rt, Paths::WORKING_FOLDER);
-    let mut desk = FileDesk::new(folder, said, notes);
-    ends(rt.alloc(), given_words(&rt), &mut source, &mut desk)
+    let desk = FileDesk::new(folder, said, notes);
+    let mut exchange = Exchange::new(source, desk);
+    ends(rt.alloc(), given_words(&rt), &mut exchange)
 }

@@ -10,9 +10,9 @@ pub fn page_text(page: Page) -> &'static [u8]
     match page {
         Page::Help => b"usage: zitiline WORD, with input and output redirected\n\
               encode   lines to frames\n\
-              decode   frames to lines\n\
+              decode   frames to lines, as they come\n\
               trace    lines of sessions to a trace\n\
-              replies  tagged replies to lines\n\
+              replies  tagged replies to lines, as they come\n\
               check    lines to all faults that they have for encode\n\
               help     these lines\n\
               version  the version of the lines\n",

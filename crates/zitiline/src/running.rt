@@ -1,22 +1,27 @@
-ghost use Rattle.std.specs.Prelude.{◌≡◌, None, Some, map};
+ghost use Rattle.std.specs.Prelude.{◌≡◌, ◌++◌, None, Some, map};
 ghost use Rattle.std.specs.Option.{option_map};
 ghost use Rattle.std.specs.String.{string_bytes};
 ghost use Rattle.ziti_outside.specs.Untouched.{OnlyNotes};
+ghost use Rattle.live_lines.specs.Exchanges.{source_of, takes_of};
+ghost use Rattle.live_lines.specs.InTime.{IsInTime};
 ghost use Rattle.zitiline.specs.declared.words.Asked.TheVariants.{Turn};
+ghost use Rattle.zitiline.specs.declared.words.Form.TheVariants as form;
 ghost use Rattle.zitiline.specs.Words.{asked_of};
 ghost use Rattle.zitiline.specs.Answers.{fault_of, status_for};
 ghost use Rattle.zitiline.specs.Notes.{notes_of, NotesLines};
-ghost use Rattle.zitiline.specs.Steps.{note_bytes, answer_notes, SaysAnswer, SaysInput, IsWriteCaused, LeavesFolder};
+ghost use Rattle.zitiline.specs.Steps.{note_bytes, answer_notes, SaysAnswer, SaysInput, EndsTold, IsReadCaused, IsWriteCaused, LeavesFolder, taken_status, told_status};
 ghost use Rattle.zitiline.specs.Pages.{TellsPage};
-ghost use Rattle.zitiline.specs.Headline.{Runs};
+ghost use Rattle.zitiline.specs.Headline.{Answers, Runs};
 
-use crate::answers::{Answer, answer_to};
+use crate::answers::{Answer, Fault, answer_to, note_of};
 use crate::intake::{Cut, take_all};
 use crate::notes::{note_lines, status_note};
 use crate::pages::page_text;
 use crate::status::Status;
-use crate::words::{Asked, Form, Page, asked_of};
-use std::alloc::Global;
+use crate::words::{Asked, Form, Page, Whole, asked_of};
+use live_lines::{Exchange, Kind, tell_live};
+use std::alloc::{AllocError, Global};
+use trace_lines::ReplyFault;
 use ziti_outside::{Desk, Failed, Source};
 
 // Notes a status that no input decides, and answers it.
@@ -27,6 +32,27 @@ fn end_with<D: Desk>(status: Status, desk: &mut D) -> Status
 {
     note_lines(status_note(status), desk);
     status
+}
+
+// The status of a taking that was cut short.
+fn taken_status(cut: Cut) -> Status
+    ensures { result ≡ taken_status cut }
+{
+    match cut {
+        Cut::NoMemory => Status::NoMemory,
+        Cut::Fault => Status::ReadFault,
+    }
+}
+
+// The status of a telling that was cut short.
+fn told_status(cut: live_lines::Cut) -> Status
+    ensures { result ≡ told_status cut }
+{
+    match cut {
+        live_lines::Cut::NoMemory => Status::NoMemory,
+        live_lines::Cut::Unread => Status::ReadFault,
+        live_lines::Cut::Unsaid => Status::WriteFault,
+    }
 }
 
 // Notes the fault of an input, if there is one, and answers the status that it decides.
@@ -59,26 +85,67 @@ fn say_answer<D: Desk>(answer: &Answer, desk: &mut D) -> Status
     }
 }
 
-fn answer_input<D: Desk>(alloc: Global, form: Form, input: &[u8], desk: &mut D) -> Status
-    ensures says { SaysInput result form input.now (D.seen desk.old).said (D.seen desk.new).said }
-    ensures noted { NotesLines (notes_of (fault_of form input.now) result) (D.seen desk.old) (D.seen desk.new) }
+fn answer_input<D: Desk>(alloc: Global, whole: Whole, input: &[u8], desk: &mut D) -> Status
+    ensures says { SaysInput result whole input.now (D.seen desk.old).said (D.seen desk.new).said }
+    ensures noted { NotesLines (notes_of (fault_of (form.Whole whole) input.now) result) (D.seen desk.old) (D.seen desk.new) }
     ensures cause { IsWriteCaused (D.seen desk.old).say_faults (D.seen desk.new).say_faults result }
     ensures folder { LeavesFolder D.seen D.stopped desk.old desk.new }
 {
-    match answer_to(alloc, form, input) {
+    match answer_to(alloc, whole, input) {
         Ok(answer) => say_answer(&answer, desk),
         Err(_) => end_with(Status::NoMemory, desk),
     }
 }
 
-fn run_form<S: Source, D: Desk>(alloc: Global, form: Form, source: &mut S, desk: &mut D) -> Status
-    ensures runs { Runs (record { left = S.left; faults = S.faults; tells = D.tells; seen = D.seen; stopped = D.stopped })
-        (Some (Turn form)) source.old source.new desk.old desk.new result }
+// Reads the input whole, and says what is to be said of it.
+fn run_whole<S: Source, D: Desk>(
+    alloc: Global,
+    whole: Whole,
+    exchange: &mut Exchange<S, D>,
+) -> Status
+    ensures answers { Answers (form.Whole whole) (S.left (source_of exchange.old)) (S.left (source_of exchange.new)) (D.seen exchange.old.desk) (D.seen exchange.new.desk) result }
+    ensures read { IsReadCaused (S.faults (source_of exchange.old)) (S.faults (source_of exchange.new)) result }
+    ensures cause { IsWriteCaused (D.seen exchange.old.desk).say_faults (D.seen exchange.new.desk).say_faults result }
+    ensures folder { LeavesFolder D.seen D.stopped exchange.old.desk exchange.new.desk }
 {
-    match take_all(alloc, source) {
-        Ok(input) => answer_input(alloc, form, input.as_slice(), desk),
-        Err(Cut::Fault) => end_with(Status::ReadFault, desk),
-        Err(Cut::NoMemory) => end_with(Status::NoMemory, desk),
+    match take_all(alloc, exchange) {
+        Ok(input) => answer_input(alloc, whole, input.as_slice(), &mut exchange.desk),
+        Err(cut) => end_with(taken_status(cut), &mut exchange.desk),
+    }
+}
+
+// Notes the fault of an input that was told as it came, if there is one, and answers the status that it decides.
+fn end_told<D: Desk>(alloc: Global, fault: Option<ReplyFault>, desk: &mut D) -> Status
+    ensures ends { EndsTold fault (D.seen desk.old) (D.seen desk.new) result }
+    ensures others { OnlyNotes D.seen D.stopped desk.old desk.new }
+{
+    match note_of(alloc, fault.map(Fault::Reply)) {
+        Ok(note) => end_by(&note, desk),
+        Err(AllocError) => end_with(Status::NoMemory, desk),
+    }
+}
+
+// Says the lines of an input as it comes.
+fn run_live<S: Source, D: Desk>(alloc: Global, kind: Kind, exchange: &mut Exchange<S, D>) -> Status
+    ensures answers { Answers (form.Live kind) (S.left (source_of exchange.old)) (S.left (source_of exchange.new)) (D.seen exchange.old.desk) (D.seen exchange.new.desk) result }
+    ensures in_time { IsInTime kind S.left D.seen (source_of exchange.old) exchange.old.desk (takes_of exchange.old) (takes_of exchange.new) }
+    ensures read { IsReadCaused (S.faults (source_of exchange.old)) (S.faults (source_of exchange.new)) result }
+    ensures cause { IsWriteCaused (D.seen exchange.old.desk).say_faults (D.seen exchange.new.desk).say_faults result }
+    ensures folder { LeavesFolder D.seen D.stopped exchange.old.desk exchange.new.desk }
+{
+    match tell_live(alloc, kind, exchange) {
+        Ok(fault) => end_told(alloc, fault, &mut exchange.desk),
+        Err(cut) => end_with(told_status(cut), &mut exchange.desk),
+    }
+}
+
+fn run_form<S: Source, D: Desk>(alloc: Global, turn: Form, exchange: &mut Exchange<S, D>) -> Status
+    ensures { Runs (record { left = S.left; faults = S.faults; tells = D.tells; seen = D.seen; stopped = D.stopped })
+        (Some (Turn turn)) (source_of exchange.old) (source_of exchange.new) exchange.old.desk exchange.new.desk (takes_of exchange.old) (takes_of exchange.new) result }
+{
+    match turn {
+        Form::Whole(whole) => run_whole(alloc, whole, exchange),
+        Form::Live(kind) => run_live(alloc, kind, exchange),
     }
 }
 
@@ -97,31 +164,29 @@ fn tell_page<D: Desk>(page: Page, desk: &mut D) -> Status
 fn run_asked<S: Source, D: Desk>(
     alloc: Global,
     asked: Asked,
-    source: &mut S,
-    desk: &mut D,
+    exchange: &mut Exchange<S, D>,
 ) -> Status
     ensures { Runs (record { left = S.left; faults = S.faults; tells = D.tells; seen = D.seen; stopped = D.stopped })
-        (Some asked) source.old source.new desk.old desk.new result }
+        (Some asked) (source_of exchange.old) (source_of exchange.new) exchange.old.desk exchange.new.desk (takes_of exchange.old) (takes_of exchange.new) result }
 {
     match asked {
-        Asked::Turn(form) => run_form(alloc, form, source, desk),
-        Asked::Tell(page) => tell_page(page, desk),
+        Asked::Turn(turn) => run_form(alloc, turn, exchange),
+        Asked::Tell(page) => tell_page(page, &mut exchange.desk),
     }
 }
 
 /// Runs the program on the words behind its name: takes the input to its end, says what is to be said of it, and notes its fault; or says a
-/// page about itself.
+/// page about itself. The lines of frames and of tagged replies are said as they come, all else once the input was taken.
 pub fn run<S: Source, D: Desk>(
     alloc: Global,
     words: &[String],
-    source: &mut S,
-    desk: &mut D,
+    exchange: &mut Exchange<S, D>,
 ) -> Status
     ensures runs { Runs (record { left = S.left; faults = S.faults; tells = D.tells; seen = D.seen; stopped = D.stopped })
-        (asked_of (map string_bytes words.now)) source.old source.new desk.old desk.new result }
+        (asked_of (map string_bytes words.now)) (source_of exchange.old) (source_of exchange.new) exchange.old.desk exchange.new.desk (takes_of exchange.old) (takes_of exchange.new) result }
 {
     match asked_of(words) {
-        Some(asked) => run_asked(alloc, asked, source, desk),
-        None => end_with(Status::Usage, desk),
+        Some(asked) => run_asked(alloc, asked, exchange),
+        None => end_with(Status::Usage, &mut exchange.desk),
     }
 }

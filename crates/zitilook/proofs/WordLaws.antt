@@ -2,7 +2,7 @@
 use Rattle.std.proofs.Common.{◌≡◌, ◌⊎◌, inl, inr, ℕ, Bool, true, false, List, [], ◌∷◌, Option, None, Some, refl, if◌then◌else◌, not, codes}
 use Rattle.std.specs.Str.{bytes_eq}
 use Rattle.ctrl_model.specs.NameForm.{is_name}
-use Rattle.ctrl_model.specs.declared.kinds.Kind.{Kind}
+use Rattle.record_lines.specs.declared.listing.Listed.{Listed}
 use Rattle.zitilook.specs.declared.words.Asked.{Asked}
 use Rattle.zitilook.specs.declared.words.Asked.TheVariants as asked
 use Rattle.zitilook.specs.declared.words.Page.TheVariants.{Help, Version}
@@ -26,13 +26,13 @@ is_no false is = absurd cc
 
 -- ---- records of a kind, and pages, ask for no name
 
-listing_no_why : (o : Option Kind) → listing o ≡ asked.Why → ⊥
+listing_no_why : (o : Option Listed) → listing o ≡ asked.Why → ⊥
 listing_no_why None is = absurd cc
-listing_no_why (Some k) is = absurd cc
+listing_no_why (Some l) is = absurd cc
 
-listing_no_who : (o : Option Kind) → listing o ≡ asked.Who → ⊥
+listing_no_who : (o : Option Listed) → listing o ≡ asked.Who → ⊥
 listing_no_who None is = absurd cc
-listing_no_who (Some k) is = absurd cc
+listing_no_who (Some l) is = absurd cc
 
 who_no_why : (service : List ℕ) → asked_who service ≡ asked.Why → ⊥
 who_no_why service is = by (branch (is_name service) asked.Who (asked.Misnamed Second) asked.Why is)

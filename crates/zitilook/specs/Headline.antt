@@ -30,7 +30,7 @@ pub record Refuses (note : List ℕ) (before now : Seen) (status : Status) : Typ
 
 -- What is said of a state to whoever asks so, if it is the folder's state that is asked about.
 abbrev pub told_of : (words : List (List ℕ)) → Asked → Option (State → List ℕ)
-told_of words (asked.List k) = Some (lines_of k)
+told_of words (asked.List l) = Some (lines_of l)
 told_of words asked.Why = Some (λ s. reason_lines (why s (word_at Second words) (word_at Third words)))
 told_of words asked.Who = Some (λ s. reason_lines (who s (word_at Second words)))
 told_of words asked.Unknown = None
@@ -46,9 +46,10 @@ refusal_of words _ = None
 -- A run on some words, by what they ask for, if they are a line of the table of words.
 --
 -- Usage comes exactly where they are no line. Then nothing is said, and the usage line is noted.
--- What is asked of the folder's state is said of it: under `list KIND` the lines of its records of the kind, under `why IDENTITY SERVICE` the
--- lines of the findings on the two, under `who SERVICE` those on all that may dial it. The folder is opened by reading alone. Where it opens to no
--- state, nothing is said, and why is noted. Where KIND is none, or a word is no name, no folder is opened, and the word is noted.
+-- What is asked of the folder's state is said of it: under `list KIND` the lines of its records of the kind, or those of its intercepts,
+-- under `why IDENTITY SERVICE` the lines of the findings on the two, under `who SERVICE` those on all that may dial it. The folder is
+-- opened by reading alone. Where it opens to no state, nothing is said, and why is noted. Where KIND is none, or a word is no name, no
+-- folder is opened, and the word is noted.
 -- A page about the program is said without memory.
 -- A fault comes exactly where its count rose in this run. Whatever is asked for, the folder is left alone.
 pub record Runs {D : Type 0} (tells : Bool) (seen : D → Seen) (stopped : D → Stopped) (words : List (List ℕ)) (what : Option Asked) (desk desk_now : D) (status : Status) : Type 0 where

@@ -10,12 +10,12 @@ use Rattle.zitilook.specs.declared.telling.Look.TheVariants as look
 
 -- The text that is asked for.
 abbrev pub text_of : Look → State → List ℕ
-text_of (look.Records k) s = lines_of k s
+text_of (look.Lines l) s = lines_of l s
 text_of (look.Why identity service) s = reason_lines (why s identity.now service.now)
 text_of (look.Who service) s = reason_lines (who s service.now)
 
 -- The names that it is asked by are names.
 abbrev pub HasNames : Look → Type 0
-HasNames (look.Records k) = ⊤
+HasNames (look.Lines l) = ⊤
 HasNames (look.Why identity service) = (is_name identity.now ≡ true) × (is_name service.now ≡ true)
 HasNames (look.Who service) = is_name service.now ≡ true

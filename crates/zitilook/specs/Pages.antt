@@ -12,5 +12,5 @@ page_text Help =
     ++ (codes "who SERVICE           the identities that may dial a service, and the policies that grant it\n"
     ++ (codes "help                  these lines\n"
     ++ (codes "version               the version of the lines\n"
-    ++ codes "KIND is identities, services, routers, links, service-policies, edge-router-policies, service-edge-router-policies, terminators or circuits\n")))))
+    ++ codes "KIND is identities, services, routers, links, service-policies, edge-router-policies, service-edge-router-policies, terminators, circuits or intercepts\n")))))
 page_text Version = codes "zitilook 1\n"

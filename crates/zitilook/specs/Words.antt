@@ -2,36 +2,38 @@
 use Rattle.std.specs.Prelude.{ℕ, List, [], ◌∷◌, codes, if◌then◌else◌, not, None, Some}
 use Rattle.std.specs.declared.option.Option.{Option}
 use Rattle.std.specs.Str.{bytes_eq}
-use Rattle.ctrl_model.specs.declared.kinds.Kind.{Kind}
 use Rattle.ctrl_model.specs.declared.kinds.Kind.TheVariants as kind
 use Rattle.ctrl_model.specs.NameForm.{is_name}
+use Rattle.record_lines.specs.declared.listing.Listed.{Listed}
+use Rattle.record_lines.specs.declared.listing.Listed.TheVariants.{Intercepts, Records}
 use Rattle.zitilook.specs.declared.words.Asked.{Asked}
 use Rattle.zitilook.specs.declared.words.Asked.TheVariants as asked
 use Rattle.zitilook.specs.declared.words.Page.TheVariants.{Help, Version}
 use Rattle.zitilook.specs.declared.words.Place.{Place}
 use Rattle.zitilook.specs.declared.words.Place.TheVariants.{Second, Third}
 
--- The words that name the kinds of record.
-abbrev pub kind_words : List (List ℕ × Kind)
+-- The words that name what is listed: the records of a kind, or the intercepts.
+abbrev pub kind_words : List (List ℕ × Listed)
 kind_words =
-    (codes "identities", kind.Identity) ∷ (codes "services", kind.Service) ∷ (codes "routers", kind.Router) ∷ (codes "links", kind.Link)
-    ∷ (codes "service-policies", kind.ServicePolicy) ∷ (codes "edge-router-policies", kind.EdgeRouterPolicy)
-    ∷ (codes "service-edge-router-policies", kind.ServiceEdgeRouterPolicy) ∷ (codes "terminators", kind.Terminator)
-    ∷ (codes "circuits", kind.Circuit) ∷ []
+    (codes "identities", Records kind.Identity) ∷ (codes "services", Records kind.Service) ∷ (codes "routers", Records kind.Router)
+    ∷ (codes "links", Records kind.Link) ∷ (codes "service-policies", Records kind.ServicePolicy)
+    ∷ (codes "edge-router-policies", Records kind.EdgeRouterPolicy)
+    ∷ (codes "service-edge-router-policies", Records kind.ServiceEdgeRouterPolicy) ∷ (codes "terminators", Records kind.Terminator)
+    ∷ (codes "circuits", Records kind.Circuit) ∷ (codes "intercepts", Intercepts) ∷ []
 
--- The kind that a word names, if it is one of some.
-abbrev pub kind_among : List (List ℕ × Kind) → List ℕ → Option Kind
+-- What a word names, if it is one of some.
+abbrev pub kind_among : List (List ℕ × Listed) → List ℕ → Option Listed
 kind_among [] word = None
 kind_among (row ∷ rows) word = if bytes_eq word row.0 then Some row.1 else kind_among rows word
 
--- The kind whose records a word names.
-abbrev pub kind_of : List ℕ → Option Kind
+-- What a word names that is listed.
+abbrev pub kind_of : List ℕ → Option Listed
 kind_of word = kind_among kind_words word
 
--- What is asked for with the records of a kind, if there is one.
-abbrev pub listing : Option Kind → Asked
+-- What is asked for with what is listed, if there is such.
+abbrev pub listing : Option Listed → Asked
 listing None = asked.Unknown
-listing (Some k) = asked.List k
+listing (Some l) = asked.List l
 
 -- What is asked for with the name of a service, if the word is a name.
 abbrev pub asked_who : List ℕ → Asked

@@ -14,7 +14,7 @@ pub fn page_text(page: Page) -> &'static [u8]
               who SERVICE           the identities that may dial a service, and the policies that grant it\n\
               help                  these lines\n\
               version               the version of the lines\n\
-              KIND is identities, services, routers, links, service-policies, edge-router-policies, service-edge-router-policies, terminators or circuits\n",
+              KIND is identities, services, routers, links, service-policies, edge-router-policies, service-edge-router-policies, terminators, circuits or intercepts\n",
         Page::Version => b"zitilook 1\n",
     }
 }

@@ -122,7 +122,7 @@ fn run_asked<D: Desk>(alloc: Global, asked: Asked, words: &[String], desk: &mut 
     let second = word_at(Place::Second, words);
     let third = word_at(Place::Third, words);
     match asked {
-        Asked::List(kind) => run_look(alloc, &Look::Records(kind), desk),
+        Asked::List(listed) => run_look(alloc, &Look::Lines(listed), desk),
         Asked::Why => run_look(
             alloc,
             &Look::Why {

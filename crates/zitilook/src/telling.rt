@@ -11,16 +11,16 @@ ghost use Rattle.zitilook.specs.OpenedRows.{IsOpened};
 use crate::opening::rows_of;
 use access_reasons::{Stores, lines, who, why};
 use ctrl_core::Core;
-use ctrl_model::{Bytes, Format, Kind, Name, NameFault, Relation};
-use record_lines::list;
+use ctrl_model::{Bytes, Format, Name, NameFault, Relation};
+use record_lines::{Listed, list};
 use row_codec::Batch;
 use std::alloc::{AllocError, Global};
 
 /// What is asked of the state of a folder that is looked at.
 #[derive(Clone, Copy)]
 pub enum Look<'a> {
-    /// The lines of the records of a kind.
-    Records(Kind),
+    /// The lines of the records of a kind, or of the intercepts.
+    Lines(Listed),
     /// The lines on why an identity can or cannot reach a service, by their names.
     Why { identity: &'a str, service: &'a str },
     /// The lines on who is granted Dial on a service, by its name.
@@ -84,21 +84,21 @@ fn who_in(alloc: Global, core: &Core, service: &str) -> Result<Bytes, AllocError
     lines(alloc, &findings)
 }
 
-// The lines of the records of a kind of what a folder opened to, which is let go.
+// The lines of what is listed of what a folder opened to, which is let go.
 fn list_of(
     alloc: Global,
     core: Core,
     format: Format,
     puts: Batch,
-    kind: Kind,
+    listed: Listed,
 ) -> Result<Bytes, AllocError>
     requires { IsOpened core format puts }
-    ensures { IfOk result (λ text. text ≡ lines_of kind core.state) }
+    ensures { IfOk result (λ text. text ≡ lines_of listed core.state) }
 {
     // The core has judged the rows.
     drop(core);
     let rows = rows_of(alloc, format, &puts)?;
-    list(alloc, rows.as_slice(), kind)
+    list(alloc, rows.as_slice(), listed)
 }
 
 // The lines on why an identity can or cannot reach a service in the state of a core, which is let go.
@@ -138,7 +138,7 @@ pub fn text_of(
     ensures { IfOk result (λ text. text ≡ text_of look.now core.state) }
 {
     match look {
-        Look::Records(kind) => list_of(alloc, core, format, puts, *kind),
+        Look::Lines(listed) => list_of(alloc, core, format, puts, *listed),
         Look::Why { identity, service } => why_of(alloc, core, identity, service),
         Look::Who { service } => who_of(alloc, core, service),
     }

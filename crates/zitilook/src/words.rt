@@ -3,17 +3,18 @@ ghost use Rattle.std.specs.String.{string_bytes};
 ghost use Rattle.zitilook.specs.Words.{asked_of, asked_pair, asked_who, asked_why, kind_of, listing, word_at};
 
 use ctrl_model::{Kind, Name};
+use record_lines::Listed;
 
 /// What the program is asked for.
 #[derive(Clone, Copy, Debug, PartialEq, Eq)]
 pub enum Asked {
-    /// The lines of the records of a kind.
-    List(Kind),
+    /// The lines of the records of a kind, or of the intercepts.
+    List(Listed),
     /// Why an identity can or cannot reach a service, which the second and the third word name.
     Why,
     /// Who is granted Dial on a service, which the second word names.
     Who,
-    /// The lines of the records of a kind that there is not. The second word is the one that names no kind.
+    /// The lines of a kind that there is not. The second word is the one that names no kind.
     Unknown,
     /// The findings on a record that nothing can name: the word at this place is no name.
     Misnamed(Place),
@@ -37,32 +38,35 @@ pub enum Page {
     Version,
 }
 
-// The kind whose records a word names, if it is one of the nine.
-fn kind_of(word: &[u8]) -> Option<Kind>
+// What a word names that is listed: the records of one of the nine kinds, or the intercepts.
+fn kind_of(word: &[u8]) -> Option<Listed>
     ensures { result ≡ kind_of word.now }
 {
     match word {
-        _ if word == b"identities".as_slice() => Some(Kind::Identity),
-        _ if word == b"services".as_slice() => Some(Kind::Service),
-        _ if word == b"routers".as_slice() => Some(Kind::Router),
-        _ if word == b"links".as_slice() => Some(Kind::Link),
-        _ if word == b"service-policies".as_slice() => Some(Kind::ServicePolicy),
-        _ if word == b"edge-router-policies".as_slice() => Some(Kind::EdgeRouterPolicy),
-        _ if word == b"service-edge-router-policies".as_slice() => {
-            Some(Kind::ServiceEdgeRouterPolicy)
-        }
-        _ if word == b"terminators".as_slice() => Some(Kind::Terminator),
-        _ if word == b"circuits".as_slice() => Some(Kind::Circuit),
+        _ if word == b"identities".as_slice() => Some(Listed::Records(Kind::Identity)),
+        _ if word == b"services".as_slice() => Some(Listed::Records(Kind::Service)),
+        _ if word == b"routers".as_slice() => Some(Listed::Records(Kind::Router)),
+        _ if word == b"links".as_slice() => Some(Listed::Records(Kind::Link)),
+        _ if word == b"service-policies".as_slice() => Some(Listed::Records(Kind::ServicePolicy)),
+        _ if word == b"edge-router-policies".as_slice() => Some(Listed::Records(
+            Kind::EdgeRouterPolicy,
+        )),
+        _ if word == b"service-edge-router-policies".as_slice() => Some(Listed::Records(
+            Kind::ServiceEdgeRouterPolicy,
+        )),
+        _ if word == b"terminators".as_slice() => Some(Listed::Records(Kind::Terminator)),
+        _ if word == b"circuits".as_slice() => Some(Listed::Records(Kind::Circuit)),
+        _ if word == b"intercepts".as_slice() => Some(Listed::Intercepts),
         _ => None,
     }
 }
 
-// What is asked for with the records of a kind, if it is one.
-fn listing(kind: Option<Kind>) -> Asked
-    ensures { result ≡ listing kind }
+// What is asked for with what is listed, if there is such.
+fn listing(listed: Option<Listed>) -> Asked
+    ensures { result ≡ listing listed }
 {
-    match kind {
-        Some(kind) => Asked::List(kind),
+    match listed {
+        Some(listed) => Asked::List(listed),
         None => Asked::Unknown,
     }
 }

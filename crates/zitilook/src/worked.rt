@@ -1,7 +1,8 @@
 ghost use Rattle.std.specs.Prelude.{◌≡◌, [], ◌∷◌, codes, None, Some};
 ghost use Rattle.ctrl_model.specs.declared.kinds.Kind.TheVariants as kind;
 ghost use Rattle.ziti_outside.specs.declared.desk.Part.TheVariants.{Zero};
-ghost use Rattle.zitilook.specs.declared.words.Asked.TheVariants.{List as Listed, Why, Who, Unknown, Misnamed, Tell};
+ghost use Rattle.record_lines.specs.declared.listing.Listed.TheVariants.{Intercepts, Records};
+ghost use Rattle.zitilook.specs.declared.words.Asked.TheVariants.{List as Lists, Why, Who, Unknown, Misnamed, Tell};
 ghost use Rattle.zitilook.specs.declared.words.Page.TheVariants.{Help, Version};
 ghost use Rattle.zitilook.specs.declared.words.Place.TheVariants.{Second, Third};
 ghost use Rattle.zitilook.specs.Notes.{damaged_note, misnamed_note, unknown_note};
@@ -9,15 +10,16 @@ ghost use Rattle.zitilook.specs.Words.{asked_of, word_at};
 
 /// What words ask for.
 pub fn worked_words()
-    ensures identities { asked_of (codes "list" ∷ codes "identities" ∷ []) ≡ Some (Listed kind.Identity) }
-    ensures services { asked_of (codes "list" ∷ codes "services" ∷ []) ≡ Some (Listed kind.Service) }
-    ensures routers { asked_of (codes "list" ∷ codes "routers" ∷ []) ≡ Some (Listed kind.Router) }
-    ensures links { asked_of (codes "list" ∷ codes "links" ∷ []) ≡ Some (Listed kind.Link) }
-    ensures service_policies { asked_of (codes "list" ∷ codes "service-policies" ∷ []) ≡ Some (Listed kind.ServicePolicy) }
-    ensures edge_router_policies { asked_of (codes "list" ∷ codes "edge-router-policies" ∷ []) ≡ Some (Listed kind.EdgeRouterPolicy) }
-    ensures service_edge_router_policies { asked_of (codes "list" ∷ codes "service-edge-router-policies" ∷ []) ≡ Some (Listed kind.ServiceEdgeRouterPolicy) }
-    ensures terminators { asked_of (codes "list" ∷ codes "terminators" ∷ []) ≡ Some (Listed kind.Terminator) }
-    ensures circuits { asked_of (codes "list" ∷ codes "circuits" ∷ []) ≡ Some (Listed kind.Circuit) }
+    ensures identities { asked_of (codes "list" ∷ codes "identities" ∷ []) ≡ Some (Lists (Records kind.Identity)) }
+    ensures services { asked_of (codes "list" ∷ codes "services" ∷ []) ≡ Some (Lists (Records kind.Service)) }
+    ensures routers { asked_of (codes "list" ∷ codes "routers" ∷ []) ≡ Some (Lists (Records kind.Router)) }
+    ensures links { asked_of (codes "list" ∷ codes "links" ∷ []) ≡ Some (Lists (Records kind.Link)) }
+    ensures service_policies { asked_of (codes "list" ∷ codes "service-policies" ∷ []) ≡ Some (Lists (Records kind.ServicePolicy)) }
+    ensures edge_router_policies { asked_of (codes "list" ∷ codes "edge-router-policies" ∷ []) ≡ Some (Lists (Records kind.EdgeRouterPolicy)) }
+    ensures service_edge_router_policies { asked_of (codes "list" ∷ codes "service-edge-router-policies" ∷ []) ≡ Some (Lists (Records kind.ServiceEdgeRouterPolicy)) }
+    ensures terminators { asked_of (codes "list" ∷ codes "terminators" ∷ []) ≡ Some (Lists (Records kind.Terminator)) }
+    ensures circuits { asked_of (codes "list" ∷ codes "circuits" ∷ []) ≡ Some (Lists (Records kind.Circuit)) }
+    ensures intercepts { asked_of (codes "list" ∷ codes "intercepts" ∷ []) ≡ Some (Lists Intercepts) }
     ensures unknown { asked_of (codes "list" ∷ codes "identity" ∷ []) ≡ Some Unknown }
     ensures why { asked_of (codes "why" ∷ codes "ann" ∷ codes "web" ∷ []) ≡ Some Why }
     ensures who { asked_of (codes "who" ∷ codes "web" ∷ []) ≡ Some Who }

@@ -9,7 +9,7 @@ returns-in-Ok-clause-ships g c =
     let d = g.D.Desk in
     let e = c.in-Ok.ensures in
     let by : IsShippedBy c.args.from d.tells d.seen d.stopped None c.args.desk.now c.ship.new.desk =
-    record { says = e.says; frames = e.frames; judges = e.judges; opens = c.ship.ensures.opens; alone = c.ship.ensures.alone } in
+    record { says = e.says; judges = e.judges; opens = e.opens; alone = c.ship.ensures.alone } in
     inr (shipped_done c.args.from d.tells by)
 
 pub returns-in-Ok-clause-alone : goal.returns-in-Ok-clause-alone
@@ -27,7 +27,7 @@ returns-in-Err-clause-ships g c =
     let e = c.in-Err.ensures in
     let t = c.tell_unshipped.ensures in
     let by : IsShippedBy c.args.from d.tells d.seen d.stopped (Some c.in-Err.fault) c.args.desk.now c.ship.new.desk =
-    record { says = e.says; frames = e.frames; judges = e.judges; opens = c.ship.ensures.opens; alone = c.ship.ensures.alone } in
+    record { says = e.says; judges = e.judges; opens = e.opens; alone = c.ship.ensures.alone } in
     unshipped c.args.from d.tells c.in-Err.fault c.args.desk.now c.ship.new.desk c.tell_unshipped.new.desk c.tell_unshipped.result by t.others t.stops t.told
 
 pub returns-in-Err-clause-alone : goal.returns-in-Err-clause-alone

@@ -1,9 +1,9 @@
 use Rattle.std.proofs.Common.{◌≡◌, take}
 use Rattle.std.specs.List.{flat_map}
 use Rattle.state_building.specs.BuiltStates.{state_in}
-use Rattle.record_lines.specs.RowTexts.{line_in}
+use Rattle.record_lines.specs.RowTexts.{is_of, line_where}
 use Rattle.record_lines.proofs.listing.lines_in.Given as goal
 
 -- the lines of the rows so far
 abbrev pub invariant-rows : goal.invariant-rows
-invariant-rows l = l.text.items ≡ flat_map (line_in l.kind (state_in l.rows)) (take l.row-index l.rows)
+invariant-rows l = l.text.items ≡ flat_map (line_where (is_of l.listed) (state_in l.rows)) (take l.row-index l.rows)

@@ -3,4 +3,4 @@ use Rattle.record_lines.proofs.RowRecords.{lines_of_rows}
 use Rattle.record_lines.proofs.listing.list.Goals as goal
 
 pub returns : goal.returns
-returns c = c.of.ensures ∙ c.in_ok-text.ensures ∙ lines_of_rows c.args.kind c.args.rows.now
+returns c = c.of.ensures ∙ c.in_ok-text.ensures ∙ lines_of_rows c.args.listed c.args.rows.now

@@ -1,10 +1,9 @@
-use Rattle.std.specs.Prelude.{⊤}
-use Rattle.std.proofs.Common.{Option, Some, None, refl, sym, subst}
+use Rattle.std.proofs.Common.{sym, subst}
 use Rattle.std.proofs.lemmas.Result.{err_from_is_err_and}
 use Rattle.row_store.specs.StoredRows.{Stored}
 use Rattle.ship_core.specs.declared.faults.ShipFault.{ShipFault}
 use Rattle.ship_core.specs.Faults.{FindFails}
-use Rattle.ship_core.proofs.JudgeLaws.{rows_fail, rows_cause, store_fails, store_cause, seen_cause}
+use Rattle.ship_core.proofs.JudgeLaws.{rows_fail, rows_cause, store_fails, store_cause}
 use Rattle.ship_core.proofs.judging.find.Goals as goal
 
 pub returns-in_err-judge-in-Ok-clause-fault : goal.returns-in_err-judge-in-Ok-clause-fault

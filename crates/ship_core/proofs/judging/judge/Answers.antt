@@ -1,10 +1,5 @@
-use Rattle.std.proofs.Common.{IsErrOf, Option, sym, ◌∙◌, subst}
-use Rattle.ctrl_model.specs.declared.formats.Format.{Format}
-use Rattle.row_codec.specs.StateRows.{HasRows}
+use Rattle.std.proofs.Common.{IsErrOf, Option, sym, subst}
 use Rattle.row_loading.specs.declared.faults.CoreFault.{CoreFault}
-use Rattle.row_loading.specs.LoadedRows.{AreOfNoState}
-use Rattle.row_store.specs.OpenedStates.{byte_rows_of}
-use Rattle.row_store.proofs.StateRows.{rows_are}
 use Rattle.ship_core.specs.declared.faults.ShipFault.{ShipFault}
 use Rattle.ship_core.specs.declared.faults.ShipFault.TheVariants.{NoMemory}
 use Rattle.ship_core.specs.Faults.{JudgesRows}

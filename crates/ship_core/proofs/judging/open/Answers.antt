@@ -40,3 +40,6 @@ returns-clause-cause g c = cause_behind _ _ _ None c.in_ok-len.ensures.cause c.i
 
 pub returns-clause-reads : goal.returns-clause-reads
 returns-clause-reads g c = OnlyReads-then c.mark_len.ensures.reads c.find.ensures.reads
+
+pub returns-clause-state : goal.returns-clause-state
+returns-clause-state g c = c.in_ok-store.ensures.state

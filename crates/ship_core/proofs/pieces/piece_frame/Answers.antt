@@ -1,6 +1,5 @@
-use Rattle.std.proofs.Common.{sym, ap, ◌∙◌}
-use Rattle.ship_core.specs.Pieces.{piece_at, piece_count}
-use Rattle.ship_core.proofs.PieceSteps.{three_headers, frame_is, frame_keeps}
+use Rattle.std.proofs.Common.{◌∙◌}
+use Rattle.ship_core.proofs.PieceSteps.{frame_is, frame_keeps}
 use Rattle.ship_core.proofs.pieces.piece_frame.Goals as goal
 
 pub returns-clause-frame : goal.returns-clause-frame

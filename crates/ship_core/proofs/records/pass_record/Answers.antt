@@ -1,7 +1,5 @@
-use Rattle.std.specs.Prelude.{OnOk}
-use Rattle.std.proofs.Common.{◌≡◌, ℕ, ◌<◌, IsErrOf, IfOk, IfErr, List, length, Option, Some, None, Ok, Err, refl, sym, ap, ◌∙◌, subst, arith}
+use Rattle.std.proofs.Common.{length, arith}
 use Rattle.std.proofs.lemmas.Result.{err_from_is_err_and, IfOk-weaker}
-use Rattle.ship_core.specs.declared.faults.ShipFault.TheVariants.{Write}
 use Rattle.ship_core.proofs.RecordSteps.{not_read, read_said, err_unwritten}
 use Rattle.ship_core.proofs.WayLaws.{next_gate}
 use Rattle.ship_core.proofs.records.pass_record.Goals as goal
@@ -18,7 +16,7 @@ returns-in_err-batch-clause-passes g c = λ frames e.
 
 pub returns-clause-passes : goal.returns-clause-passes
 returns-clause-passes g c = λ frames e.
-    read_said g.D.Desk.tells c.args.store.now c.args.from c.args.way frames c.in_ok-batch.batch c.in_ok-batch.next c.say_record.result c.requires.some c.requires.kept c.in_ok-batch.ensures.found
+    read_said g.D.Desk.tells c.args.store.now c.args.from c.args.way frames c.in_ok-batch.batch c.in_ok-batch.next c.say_record.result c.in_ok-batch.ensures.batch c.requires.some c.requires.kept c.in_ok-batch.ensures.found
     c.record_at.ensures.reads c.in_ok-batch.ensures.cause (c.say_record.ensures.ships (length frames) e) c.say_record.ensures.on
     (IfOk-weaker c.say_record.result _ _ (λ w s. s (length frames) e) c.say_record.ensures.sequence)
 

@@ -1,9 +1,8 @@
-use Rattle.std.specs.Prelude.{⊤, IfSome}
-use Rattle.std.proofs.Common.{rules, ◌≡◌, ℕ, ◌+◌, ◌-◌, ◌^◌, ◌<◌, ◌≤◌, min, List, Option, Some, None, refl, sym, ap, ◌∙◌, subst, arith}
+use Rattle.std.specs.Prelude.{IfSome}
+use Rattle.std.proofs.Common.{rules, ℕ, ◌+◌, ◌-◌, ◌^◌, ◌<◌, ◌≤◌, min, List, Option, Some, None, refl, sym, ◌∙◌, subst, arith}
 use Rattle.row_codec.specs.declared.changes.Op.{Op}
 use Rattle.row_codec.specs.Batches.{IsBatch}
 use Rattle.row_store.specs.GateBatches.{GateHas}
-use Rattle.ship_core.specs.declared.faults.ShipFault.{ShipFault}
 use Rattle.ship_core.specs.declared.faults.ShipFault.TheVariants.{Write, Damaged}
 use Rattle.ship_core.specs.Steps.{IsUndamaged}
 use Rattle.ship_core.proofs.JudgeLaws.{seen_cause, store_cause, gate_undamaged, store_unwritten, err_is}

@@ -1,4 +1,4 @@
-use Rattle.std.proofs.Common.{◌≡◌, ℕ, ◌<◌, ◌≤◌, Some, None, refl, sym, ap, ◌∙◌, subst, arith}
+use Rattle.std.proofs.Common.{ℕ, ◌<◌, ◌≤◌, Some, None, ap, ◌∙◌, subst, arith}
 use Rattle.std.proofs.lemmas.Result.{err_from_is_err_and}
 use Rattle.ship_core.specs.Steps.{serial_after, shipment_of, frames_if}
 use Rattle.ship_core.proofs.RecordSteps.{passed_over, sequence_over, said_pieces, sequence_behind, read_shipment}

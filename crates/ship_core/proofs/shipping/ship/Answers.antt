@@ -1,10 +1,11 @@
-use Rattle.std.proofs.Common.{◌≡◌, ℕ, List, [], Option, Some, None, Ok, Err, inl, inr, refl, sym, ap, ◌∙◌, subst}
+use Rattle.std.specs.Prelude.{IfSome}
+use Rattle.std.proofs.Common.{[], Option, None, inl, inr, sym, subst}
 use Rattle.std.proofs.lemmas.Result.{err_from_is_err_and}
 use Rattle.ziti_outside.specs.Images.{Image}
-use Rattle.row_store.specs.StoredRows.{IsStoreOf}
-use Rattle.ship_core.specs.Faults.{fault_of, IsOpenedBy}
+use Rattle.row_store.specs.StoredRows.{Stored, IsStoreOf}
+use Rattle.ship_core.specs.Faults.{fault_of, IsOfState, IsOpenedBy}
 use Rattle.ship_core.specs.Shipping.{shipped}
-use Rattle.ship_core.proofs.FolderSteps.{behind_judging, told_behind, empty_said, closed_said, found_unwritten, sound_fault, never_damaged}
+use Rattle.ship_core.proofs.FolderSteps.{behind_judging, told_behind, empty_said, empty_judged, store_judged, closed_said, found_unwritten, sound_fault, never_damaged}
 use Rattle.ship_core.proofs.JudgeLaws.{store_opens, empty_opens, opened_judges, failed_judges}
 use Rattle.ship_core.proofs.SaidLaws.{reads_ships}
 use Rattle.ship_core.proofs.shipping.ship.Goals as goal
@@ -25,7 +26,9 @@ returns-in_err-open-clause-judges g c = λ told.
     rw p.1 (rw p.2 (failed_judges g.D.Desk.tells (g.D.Desk.seen c.args.desk.now).reads _ told c.in_err-open.ensures.fault))
 
 pub returns-in_err-open-clause-opens : goal.returns-in_err-open-clause-opens
-returns-in_err-open-clause-opens g c = inl c.open.ensures.reads
+returns-in_err-open-clause-opens g c =
+    let p = err_from_is_err_and c.from_residual.result c.from_residual.ensures.1 in
+    rw p.1 (rw p.2 (inl (c.in_err-open.ensures.fault, c.open.ensures.reads)))
 
 pub returns-in_err-open-clause-silent : goal.returns-in_err-open-clause-silent
 returns-in_err-open-clause-silent g c = λ told part at e. c.open.ensures.reads.others.replies
@@ -57,7 +60,9 @@ returns-in-None-clause-judges g c = λ told.
     empty_opens (g.D.Desk.seen c.args.desk.now).reads (subst (IsOpenedBy (g.D.Desk.seen c.args.desk.now).reads) c.in-None.is (c.in_ok-open.ensures.opens told))
 
 pub returns-in-None-clause-opens : goal.returns-in-None-clause-opens
-returns-in-None-clause-opens g c = inl c.open.ensures.reads
+returns-in-None-clause-opens g c =
+    inr (empty_judged g.D.Desk.tells c.args.from (λ told. subst (IsOpenedBy (g.D.Desk.seen c.args.desk.now).reads) c.in-None.is (c.in_ok-open.ensures.opens told))
+    (reads_ships None (λ e. cc) c.open.ensures.reads c.in_ok-open.ensures.cause))
 
 pub returns-in-None-clause-alone : goal.returns-in-None-clause-alone
 returns-in-None-clause-alone g c = (reads_ships None (λ e. cc) c.open.ensures.reads c.in_ok-open.ensures.cause).alone
@@ -82,7 +87,7 @@ returns-in-Some-clause-says g c = λ told format batches stands.
 pub returns-in-Some-clause-frames : goal.returns-in-Some-clause-frames
 returns-in-Some-clause-frames g c =
     let said = c.ship_store.ensures.ships in
-    (said.0, (behind_judging (fault_of c.ship_store.result) said.0 c.open.ensures.reads c.in_ok-open.ensures.cause said.1).says)
+    (said.0, (behind_judging (fault_of c.ship_store.result) said.0 c.open.ensures.reads c.in_ok-open.ensures.cause said.2).says)
 
 pub returns-in-Some-clause-judges : goal.returns-in-Some-clause-judges
 returns-in-Some-clause-judges g c = λ told.
@@ -91,9 +96,12 @@ returns-in-Some-clause-judges g c = λ told.
     (sound_fault g.D.Desk.tells c.ship_store.result told c.ship_store.ensures.fault)
 
 pub returns-in-Some-clause-opens : goal.returns-in-Some-clause-opens
-returns-in-Some-clause-opens g c = inr (λ told.
-    let opened = subst (IsOpenedBy (g.D.Desk.seen c.args.desk.now).reads) c.in-Some.is (c.in_ok-open.ensures.opens told) in
-    store_opens (g.D.Desk.seen c.args.desk.now).reads c.in-Some.store opened.1 opened.2)
+returns-in-Some-clause-opens g c =
+    let said = c.ship_store.ensures.ships in
+    inr (store_judged g.D.Desk.tells c.args.from c.in-Some.store (fault_of c.ship_store.result) said.0
+    (λ told. (subst (IsOpenedBy (g.D.Desk.seen c.args.desk.now).reads) c.in-Some.is (c.in_ok-open.ensures.opens told)).1)
+    (subst (λ (o : Option Stored). IfSome o IsOfState) c.in-Some.is c.in_ok-open.ensures.state) said.1
+    (behind_judging (fault_of c.ship_store.result) said.0 c.open.ensures.reads c.in_ok-open.ensures.cause said.2))
 
 pub returns-in-Some-clause-silent : goal.returns-in-Some-clause-silent
 returns-in-Some-clause-silent g c = λ told part at e. absurd (never_damaged g.D.Desk.tells c.ship_store.result part at told c.ship_store.ensures.fault e)
@@ -101,14 +109,14 @@ returns-in-Some-clause-silent g c = λ told part at e. absurd (never_damaged g.D
 pub returns-in-Some-clause-alone : goal.returns-in-Some-clause-alone
 returns-in-Some-clause-alone g c =
     let said = c.ship_store.ensures.ships in
-    (behind_judging (fault_of c.ship_store.result) said.0 c.open.ensures.reads c.in_ok-open.ensures.cause said.1).alone
+    (behind_judging (fault_of c.ship_store.result) said.0 c.open.ensures.reads c.in_ok-open.ensures.cause said.2).alone
 
 pub returns-in-Some-clause-write_cause : goal.returns-in-Some-clause-write_cause
 returns-in-Some-clause-write_cause g c =
     let said = c.ship_store.ensures.ships in
-    (behind_judging (fault_of c.ship_store.result) said.0 c.open.ensures.reads c.in_ok-open.ensures.cause said.1).write
+    (behind_judging (fault_of c.ship_store.result) said.0 c.open.ensures.reads c.in_ok-open.ensures.cause said.2).write
 
 pub returns-in-Some-clause-disk_cause : goal.returns-in-Some-clause-disk_cause
 returns-in-Some-clause-disk_cause g c =
     let said = c.ship_store.ensures.ships in
-    (behind_judging (fault_of c.ship_store.result) said.0 c.open.ensures.reads c.in_ok-open.ensures.cause said.1).disk
+    (behind_judging (fault_of c.ship_store.result) said.0 c.open.ensures.reads c.in_ok-open.ensures.cause said.2).disk

@@ -1,10 +1,10 @@
-use Rattle.std.proofs.Common.{◌≡◌, ◌%◌, ◌^◌, ◌≤◌, ℕ, List, [], ◌++◌, length, Option, Some, None, refl, sym, ap, ◌∙◌, subst, length-append, arith}
+use Rattle.std.proofs.Common.{◌%◌, ◌^◌, ℕ, [], ◌++◌, None, refl, sym, ap, ◌∙◌, subst, length-append, arith}
 use Rattle.std.proofs.lemmas.Result.{err_from_is_err_and}
 use Rattle.ziti_outside.specs.Images.{Image}
 use Rattle.row_store.specs.StoredRows.{IsStoreOf}
-use Rattle.ship_core.specs.Steps.{IsOnItsWay}
+use Rattle.ship_core.proofs.ReadLaws.{read_none, read_passed, read_fails}
 use Rattle.ship_core.proofs.RecordSteps.{on_later, way_fails, way_ends}
-use Rattle.ship_core.proofs.SaidLaws.{nothing_done, ShipsFrames-then}
+use Rattle.ship_core.proofs.SaidLaws.{nothing_done, ships_same, ShipsFrames-then}
 use Rattle.ship_core.proofs.WayLaws.{at_start}
 use Rattle.ship_core.proofs.shipping.ship_kept.Goals as goal
 
@@ -13,6 +13,7 @@ records-init g c = record {
   frames = [];
   ships = nothing_done c.args.desk.now;
   sequence = refl;
+  read = read_none c.args.from _ refl refl;
   told = λ told. at_start (g.D.Desk.seen c.args.desk.now).reads c.args.store.now c.args.from _ c.requires.format (c.requires.kept told) refl refl;
 }
 
@@ -42,6 +43,7 @@ records-preserved g c =
       frames = held.frames ++ step.all;
       ships = ShipsFrames-then None held.ships step.ships;
       sequence = step.sequence ∙ ap (λ (n : ℕ). n % 2 ^ 32) (sym (length-append held.frames step.all));
+      read = read_passed c.args.from c.records.way _ held.frames step.all step.ops step.batch step.made c.in_ok-way.ensures.further step.serial held.read;
       told = λ told.
           let here = on_later old mid c.args.from c.records.way held.frames held.ships.alone.parts (held.told told) in
           on_later mid old c.args.from _ (held.frames ++ step.all) (sym held.ships.alone.parts) (step.told told here);
@@ -64,7 +66,7 @@ returns-in_err-way-clause-ships g c =
     let p = err_from_is_err_and c.from_residual.result c.from_residual.ensures.1 in
     let held = c.records.invariant in
     let step = c.in_err-way.ensures.passes held.frames held.sequence in
-    rw p.1 (rw p.2 (held.frames ++ step.all, ShipsFrames-then (Some _) held.ships step.ships))
+    rw p.1 (rw p.2 (read_fails g.D.Desk.tells c.args.from c.records.way held.frames _ held.read held.ships step))
 
 pub returns-clause-told : goal.returns-clause-told
 returns-clause-told g c = λ told batches stands.
@@ -74,4 +76,6 @@ returns-clause-told g c = λ told batches stands.
     way_ends c.args.store.now c.args.from c.records.way held.frames batches (c.requires.kept told) c.requires.format (omega (arith, past, end)) stands (held.told told) held.ships
 
 pub returns-clause-ships : goal.returns-clause-ships
-returns-clause-ships g c = (c.records.invariant.frames, c.records.invariant.ships)
+returns-clause-ships g c =
+    let held = c.records.invariant in
+    (held.read.batches, held.read.spelled, ships_same held.frames _ held.read.said held.ships)

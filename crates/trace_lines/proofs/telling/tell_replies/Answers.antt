@@ -1,17 +1,17 @@
-use Rattle.std.proofs.Common.{◌≡◌, sym, ◌∙◌, arith}
-use Rattle.trace_lines.specs.declared.fronts.ReplyFront.TheVariants.{Whole}
-use Rattle.trace_lines.specs.TaggedReplies.{reply_front}
-use Rattle.trace_lines.proofs.ReplyLaws.{reply_within, told_put}
+use Rattle.std.proofs.Common.{List, ℕ, [], ap, ◌∙◌, drop}
+use Rattle.trace_lines.specs.RepliesSoFar.{end_fault}
+use Rattle.trace_lines.proofs.ReplyLaws.{goes_start, all_told}
 use Rattle.trace_lines.proofs.telling.tell_replies.Goals as goal
 
-pub replies-preserved : goal.replies-preserved
-replies-preserved c =
-    let rest = c.replies.rest.now in
-    let whole : reply_front rest ≡ Whole c.in-Whole.session c.in-Whole.frame c.in-Whole.len = sym c.in_ok-session.ensures.front ∙ c.in-Whole.is in
-    let long = (reply_within rest c.in-Whole.session c.in-Whole.len c.in-Whole.frame whole).0 in
-    record {
-      told = told_put c.replies.out.items c.put_reply.new.out.items c.replies.number rest c.split_at.result.1.now c.args.bytes.now c.in-Whole.session c.in-Whole.len c.in-Whole.frame
-          c.in_ok-put-in-Whole.put whole c.split_at.ensures.back c.in_ok-put-in-Whole.ensures c.in_default.not-Err c.replies.invariant.told;
-      few = omega (arith, long, c.split_at.ensures.back_len, c.replies.invariant.few);
-      within = omega (arith, c.split_at.ensures.back_len, c.replies.invariant.within);
-    }
+pub returns-clause-text : goal.returns-clause-text
+returns-clause-text c =
+    let bytes = c.args.bytes.now in
+    let t = c.in_ok-told.told in
+    (all_told bytes t.lines t.number t.at (drop t.used bytes) t.fault (c.in_ok-told.ensures.turns.stands bytes [] (goes_start bytes))).0
+
+pub returns-clause-fault : goal.returns-clause-fault
+returns-clause-fault c =
+    let bytes = c.args.bytes.now in
+    let t = c.in_ok-told.told in
+    c.end_fault-fault.ensures ∙ ap (λ (rest : List ℕ). end_fault t.fault rest t.at t.number) c.split_at.ensures.back
+    ∙ (all_told bytes t.lines t.number t.at (drop t.used bytes) t.fault (c.in_ok-told.ensures.turns.stands bytes [] (goes_start bytes))).1

@@ -1,32 +1,26 @@
 use Rattle.std.proofs.Common.{refl, sym, ap}
 use Rattle.std.specs.Option.{option_map}
-use Rattle.frame_lines.specs.FaultTexts.{line_text, frame_text}
+use Rattle.frame_lines.specs.FaultTexts.{line_text}
 use Rattle.trace_lines.specs.TraceTexts.{trace_text}
 use Rattle.zitiline.specs.declared.answers.Fault.TheVariants as fault
-use Rattle.zitiline.specs.declared.words.Form.TheVariants as form
+use Rattle.zitiline.specs.declared.words.Whole.TheVariants as whole
 use Rattle.zitiline.proofs.AnswerLaws.{is_answered}
 use Rattle.zitiline.proofs.answers.answer_to.Goals as goal
 
 pub returns-in_ok-encoded-in-Encode : goal.returns-in_ok-encoded-in-Encode
 returns-in_ok-encoded-in-Encode c =
     let e = c.in_ok-encoded-in-Encode.ensures in
-    is_answered fault.Line line_text form.Encode c.args.form c.args.input.now _ c.in_ok-encoded-in-Encode.encoded.fault c.map.result c.answer_with.result
+    is_answered fault.Line line_text whole.Encode c.args.whole c.args.input.now _ c.in_ok-encoded-in-Encode.encoded.fault c.map.result c.answer_with.result
     (λ f. refl) c.in-Encode.is e.bytes (sym (ap (option_map line_text) e.fault)) c.map.ensures.cases c.answer_with.ensures
-
-pub returns-in_ok-decoded-in-Decode : goal.returns-in_ok-decoded-in-Decode
-returns-in_ok-decoded-in-Decode c =
-    let e = c.in_ok-decoded-in-Decode.ensures in
-    is_answered fault.Frame frame_text form.Decode c.args.form c.args.input.now _ c.in_ok-decoded-in-Decode.decoded.fault c.map-in-Decode.result c.answer_with-in-Decode.result
-    (λ f. refl) c.in-Decode.is e.text (sym (ap (option_map frame_text) e.fault)) c.map-in-Decode.ensures.cases c.answer_with-in-Decode.ensures
 
 pub returns-in_ok-traced-in-Trace : goal.returns-in_ok-traced-in-Trace
 returns-in_ok-traced-in-Trace c =
     let e = c.in_ok-traced-in-Trace.ensures in
-    is_answered fault.Trace trace_text form.Trace c.args.form c.args.input.now _ c.in_ok-traced-in-Trace.traced.fault c.map-in-Trace.result c.answer_with-in-Trace.result
+    is_answered fault.Trace trace_text whole.Trace c.args.whole c.args.input.now _ c.in_ok-traced-in-Trace.traced.fault c.map-in-Trace.result c.answer_with-in-Trace.result
     (λ f. refl) c.in-Trace.is e.bytes (sym (ap (option_map trace_text) e.fault)) c.map-in-Trace.ensures.cases c.answer_with-in-Trace.ensures
 
 pub returns-in_ok-checked-in-Check : goal.returns-in_ok-checked-in-Check
 returns-in_ok-checked-in-Check c =
     let e = c.in_ok-checked-in-Check.ensures in
-    is_answered fault.Line line_text form.Check c.args.form c.args.input.now _ c.in_ok-checked-in-Check.checked.fault c.map-in-Check.result c.answer_with-in-Check.result
+    is_answered fault.Line line_text whole.Check c.args.whole c.args.input.now _ c.in_ok-checked-in-Check.checked.fault c.map-in-Check.result c.answer_with-in-Check.result
     (λ f. refl) c.in-Check.is e.told (sym (ap (option_map line_text) e.fault)) c.map-in-Check.ensures.cases c.answer_with-in-Check.ensures

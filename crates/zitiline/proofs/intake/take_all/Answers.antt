@@ -19,5 +19,5 @@ returns-in-Err-clause-faults g c =
     let calm = c.takes.invariant.calm in
     record {
       counted = record { later = omega (arith, cause.later, calm); once = omega (arith, cause.once, calm) };
-      fault = subst (λ (n : ℕ). Rose n (g.S.Source.faults c.take.new.self)) calm cause.failed;
+      fault = subst (λ (n : ℕ). Rose n (g.S.Source.faults c.take.new.self.source)) calm cause.failed;
     }

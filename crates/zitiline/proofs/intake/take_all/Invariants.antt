@@ -5,8 +5,9 @@ use Rattle.zitiline.proofs.intake.take_all.Given as goal
 -- the bytes are what the source gave since the call began
 abbrev pub invariant-takes : goal.invariant-takes
 invariant-takes g l = record {
-  gave : Gave (g.S.Source.left l.fn.source) (g.S.Source.left l.source) l.bytes.items;
-  calm : g.S.Source.faults l.source ≡ g.S.Source.faults l.fn.source;
+  gave : Gave (g.S.Source.left l.fn.exchange.source) (g.S.Source.left l.exchange.source) l.bytes.items;
+  calm : g.S.Source.faults l.exchange.source ≡ g.S.Source.faults l.fn.exchange.source;
+  same : l.exchange.desk ≡ l.fn.exchange.desk;
 }
 
 -- no vector is longer than its place in memory

@@ -8,8 +8,8 @@ pub returns-in-Tell : goal.returns-in-Tell
 returns-in-Tell g c =
     let RunsOf : Asked → Type 0 = λ asked. Runs {S = g.row.S.Denot} {D = g.row.D.Denot}
     (record { left = g.S.Source.left; faults = g.S.Source.faults; tells = g.D.Desk.tells; seen = g.D.Desk.seen; stopped = g.D.Desk.stopped }) (Some asked)
-    c.args.source.now c.args.source.now c.args.desk.now c.tell_page.new.desk c.tell_page.result in
+    c.args.exchange.now.source c.args.exchange.now.source c.args.exchange.now.desk c.tell_page.new.desk c.args.exchange.now.takes.items c.args.exchange.now.takes.items c.tell_page.result in
     subst RunsOf (sym c.in-Tell.is)
     (page_runs {S = g.row.S.Denot} {D = g.row.D.Denot}
     (record { left = g.S.Source.left; faults = g.S.Source.faults; tells = g.D.Desk.tells; seen = g.D.Desk.seen; stopped = g.D.Desk.stopped })
-    c.in-Tell.page c.args.source.now c.args.desk.now c.tell_page.new.desk c.tell_page.result c.tell_page.ensures.page c.tell_page.ensures.cause c.tell_page.ensures.folder)
+    c.in-Tell.page c.args.exchange.now.source c.args.exchange.now.desk c.tell_page.new.desk c.args.exchange.now.takes.items c.tell_page.result c.tell_page.ensures.page c.tell_page.ensures.cause c.tell_page.ensures.folder)

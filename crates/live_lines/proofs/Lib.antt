@@ -1,0 +1,2 @@
+pub mod WatchLaws
+pub mod TellingLaws

@@ -1,0 +1,4 @@
+pub mod LiveLines
+pub mod Exchanges
+pub mod InTime
+pub mod LiveTellings
