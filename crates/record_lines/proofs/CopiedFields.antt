@@ -47,7 +47,7 @@ plain_from b least other =
     let not_tab : (b == 9) ≡ false = ne_eqb b 9 (λ e. omega (arith, e, least)) in
     let not_low : nat_lt b 32 ≡ false = grind (arith, nat_tests, least) in
     let no_letter : escape_letter b ≡ 0 =
-        λ i. cond (not_quote i || other i) b (cond (not_back i) 98 (cond (not_feed i) 102 (cond (not_line i) 110 (cond (not_return i) 114 (cond (not_tab i) 116 0))))) in
+    λ i. cond (not_quote i || other i) b (cond (not_back i) 98 (cond (not_feed i) 102 (cond (not_line i) 110 (cond (not_return i) 114 (cond (not_tab i) 116 0))))) in
     λ i. cond (nat_lt 0 (no_letter i)) (92 ∷ no_letter i ∷ []) (cond (not_low i) (92 ∷ 117 ∷ 48 ∷ 48 ∷ digit_char (b / 16) ∷ digit_char (b % 16) ∷ []) (b ∷ []))
 
 escaped_as : (s : List ℕ) → All Plain s → escape s ≡ s
@@ -176,7 +176,7 @@ body_with addresses ports protocols service =
 
 body_fields : (name : List ℕ) (i : Intercept) → body_text (command.SetIntercept name i)
     ≡ body_with (compact_text (list_of (λ t. string t) (map address_text i.addresses))) (compact_text (list_of two_ports i.ports))
-        (compact_text (list_of (λ t. string t) (protocol_words i.tcp i.udp))) (quoted name)
+    (compact_text (list_of (λ t. string t) (protocol_words i.tcp i.udp))) (quoted name)
 unfolding serde_json_on_literals escape_byte
 body_fields name i = refl
 
