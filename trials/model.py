@@ -256,7 +256,7 @@ def write_cases(folder, size, seed, each):
         requests, lines = example(name)
         replies = model_replies(b"".join(requests))[0]
         print(f"example {name}: {sum(reply_line(reply) != told for reply, told in zip(replies, lines))} of {len(lines)} lines of the file are other ones")
-        write_case(dry, "example" + name, "dry", b"".join(requests), b"".join(replies))
+        write_case(dry, "example" + name.replace("/", ""), "dry", b"".join(requests), b"".join(replies))
     for number in LOADS:
         write_case(dry, f"load{number}", f"load {number}", b"", folders.counts_line(loaded(number)))
     for word, named in limits.inputs():

@@ -3,7 +3,8 @@
 import os
 import struct
 
-from model_folder import names, number, side, text, text_of
+from model_folder import put
+from model_rows import names, number, side, text
 
 EVERYONE = {"all": 1, "names": [], "attributes": []}
 FILES = ("ziti.0", "ziti.1", "ziti.mark")
@@ -56,7 +57,7 @@ def circuit(no, identity, service, at, ingress):
 
 def put_rows(rows):
     """The batch that puts these rows, of which the keys have to differ."""
-    return b"".join(b"\1" + text_of(key) + number(len(row)) + row for key, row in sorted(rows))
+    return b"".join(put(key, row) for key, row in sorted(rows))
 
 
 def narrowed(rows):
