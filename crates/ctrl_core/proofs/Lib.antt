@@ -1,14 +1,15 @@
 pub mod PlanLaws
 pub mod EntityCounts
 pub mod ApplyLaws
-pub mod StepLaws
 pub mod NetworkPlans
 pub mod CountedChanges
 pub mod FoundPlans
 pub mod StateParts
 pub mod SettledChanges
+pub mod EmptiedPairs
 pub mod StillGranted
 pub mod LookedCircuits
+pub mod StepLaws
 pub mod LoadChanges
 pub mod JudgedChanges
 pub mod NextNumbers
