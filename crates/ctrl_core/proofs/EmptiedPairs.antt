@@ -4,7 +4,7 @@ use Rattle.std.proofs.lemmas.Bool.{and_parts, and_from, false≢true}
 use Rattle.std.proofs.lemmas.List.Sums.{sum_by-cons}
 use Rattle.std.specs.List.{count_by}
 use Rattle.grant_denorm.specs.declared.deltas.Delta.{Delta}
-use Rattle.grant_denorm.specs.Deltas.{downs, is_at}
+use Rattle.grant_denorm.specs.Deltas.{is_at}
 use Rattle.grant_denorm.specs.PairCounts.{Raises, count_of, same_pair}
 use Rattle.ctrl_core.specs.LookedCircuits.{AreEmptied, empties}
 

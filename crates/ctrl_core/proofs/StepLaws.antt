@@ -12,7 +12,7 @@ use Rattle.ctrl_model.specs.Grants.{count, policies_for}
 use Rattle.ctrl_model.specs.Limits.{limit}
 use Rattle.ctrl_model.specs.Membership.{Among}
 use Rattle.ctrl_model.specs.Settling.{settle}
-use Rattle.ctrl_model.specs.State.{State, Circuit}
+use Rattle.ctrl_model.specs.State.{State}
 use Rattle.ctrl_model.specs.ValidState.{ValidState}
 use Rattle.grant_denorm.specs.PairCounts.{count_of}
 use Rattle.grant_moves.proofs.CountBounds.{has_count_room}

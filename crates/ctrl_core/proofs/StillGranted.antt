@@ -2,13 +2,13 @@
 use Rattle.std.proofs.Common.{◌≡◌, ℕ, ◌==◌, Bool, true, false, ◌&&◌, cond, nat_lt, List, [], ◌∷◌, Option, None, Some, refl, sym, ◌∙◌, ap, subst, eqb-true, eq-eqb}
 use Rattle.std.proofs.lemmas.Bool.{and_parts, and_from, or_parts, false≢true}
 use Rattle.std.proofs.lemmas.Option.{same_Some, none-some}
-use Rattle.std.specs.Option.{option_map, option_map_or}
+use Rattle.std.specs.Option.{option_map_or}
 use Rattle.std.specs.Str.{bytes_eq}
 use Rattle.ctrl_model.specs.declared.kinds.Precedence.{Precedence}
 use Rattle.ctrl_model.specs.declared.kinds.Relation.{Relation}
 use Rattle.ctrl_model.specs.declared.kinds.Relation.TheVariants.{Dial, Bind, IdentityRouter, ServiceRouter}
 use Rattle.ctrl_model.specs.Grants.{count, is_granted}
-use Rattle.ctrl_model.specs.Networks.{Network, network_of, is_on, is_shared, is_counted, is_in_service, is_path, may_host}
+use Rattle.ctrl_model.specs.Networks.{Network, network_of, is_on, is_shared, is_counted, is_in_service, may_host}
 use Rattle.ctrl_model.specs.Numbered.{at, numbers, with_last, without, Between}
 use Rattle.ctrl_model.specs.Settling.{admits, granted_in, circuit_reaches, stays_in, terminator_stays, settle_links}
 use Rattle.ctrl_model.specs.State.{State, Terminator, Circuit}
