@@ -1,5 +1,7 @@
 -- What is present after a change, as circuits need it, and what becomes of circuits beside it.
-use Rattle.std.proofs.Common.{◌≡◌, ℕ, Bool, true, not, ◌&&◌, cond, List, [], Option, None, option_and_then, sym, ◌∙◌, ap, subst}
+use Rattle.std.proofs.Common.{◌≡◌, ℕ, ◌==◌, Bool, true, not, ◌&&◌, cond, List, [], length, Option, None, option_and_then, sym, ◌∙◌, ap, subst, eqb-true, eq-eqb}
+use Rattle.std.proofs.lemmas.Bool.{false≢true}
+use Rattle.std.proofs.lemmas.List.{nil_from_length}
 use Rattle.std.specs.List.{filter}
 use Rattle.std.specs.Option.{option_map_or}
 use Rattle.ctrl_model.specs.declared.kinds.RouterSeen.{RouterSeen}
@@ -38,9 +40,10 @@ use Rattle.ctrl_core.specs.ChangedStores.{CanSettle}
 use Rattle.ctrl_core.specs.Changes.{after_change}
 use Rattle.circuit_settling.specs.declared.going.Remaining.{Remaining}
 use Rattle.circuit_settling.specs.PresentRecords.{Remains}
-use Rattle.ctrl_core.specs.declared.looking.Look.{Look}
-use Rattle.ctrl_core.specs.declared.looking.Look.TheVariants.{Paths, These, All}
-use Rattle.ctrl_core.specs.LookedCircuits.{GoesNone, LooksAt, going_by}
+use Rattle.circuit_looks.specs.declared.looking.Look.{Look}
+use Rattle.circuit_looks.specs.declared.looking.Look.TheVariants.{Paths, These, All}
+use Rattle.circuit_looks.specs.LookedCircuits.{goes_none, going_by}
+use Rattle.ctrl_core.specs.LookedCircuits.{LooksAt}
 use Rattle.ctrl_core.specs.SettledParts.{AreGrantsAfter}
 use Rattle.ctrl_core.specs.PlannedCommands.{Stands}
 use Rattle.ctrl_core.specs.SettledRecords.{AreJudged, AreSettled, before_circuits}
@@ -48,6 +51,10 @@ use Rattle.ctrl_core.proofs.LookedCircuits.{going_is, granted_then, keeps_then}
 use Rattle.circuit_settling.proofs.GrantedCircuits.{granted-before}
 use Rattle.ctrl_core.proofs.SettledChanges.{FallAs}
 use Rattle.ctrl_core.proofs.StateParts.{parts_after, state_then, entities_then, links_then, circuits_then, terms_ordered, links_left, terms_left}
+
+-- a list without numbers has none
+pub is_none : (ns : List ℕ) → ns ≡ [] → (length ns == 0) ≡ true
+is_none ns e = eq-eqb (length ns) 0 (ap length e)
 
 module _ (c : Change) (st : Stores) (g : Fallen) (can : CanSettle st c) (falls : FallAs (after_change c (state_of st)) g) where
   abbrev t : State
@@ -71,7 +78,7 @@ module _ (c : Change) (st : Stores) (g : Fallen) (can : CanSettle st c) (falls :
   links_have_graph o e = subst HaveGraph (sym (links_are o e)) (have_graph (settle t) valid_then)
 
   -- where no circuit is looked at, the links and the terminators that fall are all that settles
-  pub settled_alone : (look : Look) → Stands c (state_of st) → LooksAt c st g.circuits look → GoesNone g.circuits look
+  pub settled_alone : (look : Look) → Stands c (state_of st) → LooksAt c st g.circuits look → goes_none g.circuits look ≡ true
       → (out : Settled) → out.links ≡ g.links → out.terminators ≡ g.terminators → out.going ≡ [] → out.ended ≡ [] → out.moves ≡ [] → AreSettled (after_change c (state_of st)) out
   settled_alone look stands looks none out links terms going ended moves = subst (λ s. AreSettled s out) (sym (parts_after c st can)) (record {
     links_are = links ∙ falls_then.links_are;
@@ -83,11 +90,14 @@ module _ (c : Change) (st : Stores) (g : Fallen) (can : CanSettle st c) (falls :
     };
   })
     where
-      nobody : (look : Look) → GoesNone g.circuits look
+      empty : (ns : List ℕ) → (length ns == 0) ≡ true → ns ≡ []
+      empty ns e = nil_from_length ns (eqb-true (length ns) 0 e)
+
+      nobody : (look : Look) → goes_none g.circuits look ≡ true
           → going_by look g.circuits (numbers (circuits_then c st).circuits.rows) (granted_then c st g can falls_then) (keeps_then c st g can falls_then) ≡ []
-      nobody Paths none = none
-      nobody (These ns) none = ap (filter (λ n. not (keeps_then c st g can falls_then n))) none
-      nobody All none = absurd none
+      nobody Paths none = empty g.circuits none
+      nobody (These ns) none = ap (filter (λ n. not (keeps_then c st g can falls_then n))) (empty ns none)
+      nobody All none = absurd (false≢true none)
 
   -- no circuit is gone or moved yet
   pub circuits_stand : (o : Option CircuitChange) (moves : List Move) (gone : List ℕ) → o ≡ circuit_part c → moves ≡ [] → gone ≡ []

@@ -6,7 +6,6 @@ pub mod CountedChanges
 pub mod FoundPlans
 pub mod StateParts
 pub mod SettledChanges
-pub mod EmptiedPairs
 pub mod StillGranted
 pub mod LookedCircuits
 pub mod StepLaws

@@ -25,11 +25,13 @@ use Rattle.core_stores.specs.declared.stores.Grants.{Grants}
 use Rattle.core_stores.specs.declared.stores.Stores.{Stores}
 use Rattle.core_stores.specs.ChangeParts.{circuit_part, term_part}
 use Rattle.core_stores.specs.StoredState.{state_of}
-use Rattle.ctrl_core.specs.declared.looking.Look.{Look}
-use Rattle.ctrl_core.specs.declared.looking.Look.TheVariants.{Paths, These, All}
+use Rattle.circuit_looks.specs.declared.looking.Look.{Look}
+use Rattle.circuit_looks.specs.declared.looking.Look.TheVariants.{Paths, These, All}
+use Rattle.circuit_looks.specs.EmptiedPairs.{no_pairs}
+use Rattle.circuit_looks.specs.LookedCircuits.{going_by, is_looked_at, needs}
 use Rattle.ctrl_core.specs.ChangedStores.{CanSettle}
 use Rattle.ctrl_core.specs.Changes.{after_change}
-use Rattle.ctrl_core.specs.LookedCircuits.{LooksAt, StillGranted, going_by, is_looked_at, needs, no_pairs}
+use Rattle.ctrl_core.specs.LookedCircuits.{LooksAt, StillGranted}
 use Rattle.ctrl_core.specs.PlannedCommands.{Stands}
 use Rattle.ctrl_core.proofs.SettledChanges.{FallAs}
 use Rattle.ctrl_core.proofs.StateParts.{parts_after, state_then, circuits_then, circuits_ordered, terms_ordered}

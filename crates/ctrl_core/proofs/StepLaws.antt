@@ -1,5 +1,5 @@
 -- What taking the steps of a plan has to show: that the kept counts have room for them, and that what a core keeps stays.
-use Rattle.std.proofs.Common.{◌≡◌, ℕ, zero, suc, ◌≤◌, ◌==◌, nat_lt, ◌||◌, ◌&&◌, Bool, true, false, not, cond, List, [], ◌∷◌, length, is_some, Option, None, Some, refl, sym, ◌∙◌, ap, subst, arith, eqb-true, lt-ltb, ltb-true}
+use Rattle.std.proofs.Common.{◌≡◌, ℕ, zero, suc, ◌≤◌, ◌==◌, nat_lt, ◌||◌, ◌&&◌, Bool, true, false, not, cond, List, [], ◌∷◌, length, is_some, Option, None, Some, refl, sym, ◌∙◌, ap, subst, arith, eqb-true, eq-eqb, lt-ltb, ltb-true}
 use Rattle.std.proofs.lemmas.Bool.{and_parts, ltb-false}
 use Rattle.std.proofs.lemmas.List.{nil_from_length}
 use Rattle.std.proofs.lemmas.List.Sums.{sum_by-cons}
@@ -23,7 +23,6 @@ use Rattle.core_stores.specs.declared.stores.Stores.{Stores}
 use Rattle.core_stores.specs.CarriedStates.{Carries}
 use Rattle.grant_denorm.specs.TakenSteps.{HaveRoom, Taken}
 use Rattle.circuit_settling.specs.declared.granting.GrantsAfter.{GrantsAfter}
-use Rattle.grant_denorm.specs.CountsAfter.{count_after}
 use Rattle.core_stores.specs.declared.changes.Change.{Change}
 use Rattle.ctrl_model.specs.Numbered.{Between}
 use Rattle.model_laws.specs.Plans.{CanLeadBy, led_by}
@@ -31,9 +30,10 @@ use Rattle.model_laws.proofs.RevokedLaws.{AreGranted-from, revoke-settle}
 use Rattle.ctrl_core.specs.ChangedStores.{CanSettle, next_state}
 use Rattle.ctrl_core.specs.Changes.{CanChange, CanLead, after_change, led}
 use Rattle.ctrl_core.proofs.StateParts.{parts_after, terms_ascend}
-use Rattle.ctrl_core.specs.declared.looking.Look.TheVariants.{Paths}
-use Rattle.ctrl_core.specs.LookedCircuits.{AreEmptied, LooksAt, StillGranted, has_no_pair, no_pairs}
-use Rattle.ctrl_core.specs.SettledParts.{AreGrantsAfter, counts_after}
+use Rattle.circuit_looks.specs.declared.looking.Look.TheVariants.{Paths}
+use Rattle.circuit_looks.specs.EmptiedPairs.{TellEmptied, counts_after, has_no_pair, no_pairs}
+use Rattle.ctrl_core.specs.LookedCircuits.{LooksAt, StillGranted}
+use Rattle.ctrl_core.specs.SettledParts.{AreGrantsAfter}
 use Rattle.ctrl_core.proofs.LookedCircuits.{still_of}
 use Rattle.ctrl_core.proofs.StillGranted.{StayCounted}
 use Rattle.grant_steps.specs.LeadingSteps.{LeadAllCounts}
@@ -88,24 +88,6 @@ pub keeps_after : (st mid : Stores) (g : Grants) (p : Planned) → Keeps st → 
     → ((r : Relation) → Taken (counts_of r mid.grants) (count_of (counts_of r g)) (steps_of r p.steps)) → Keeps (record mid { grants = g })
 keeps_after st mid g p keeps can = keeps_with_steps st mid g (led p (state_of st)) p.steps keeps can.valid can.counts
 
--- counts that are told by the steps, one relation after another
-pub stepped_by_relation : (g : Grants) (after : GrantsAfter) (steps : GrantSteps) → Taken g.dial (count_after after.dial) steps.dial.items → Taken g.bind (count_after after.bind) steps.bind.items
-    → Taken g.identity_router (count_after after.identity_router) steps.identity_router.items → Taken g.service_router (count_after after.service_router) steps.service_router.items
-    → (r : Relation) → Taken (counts_of r g) (counts_after r after) (steps_of r steps)
-stepped_by_relation g after steps dial bind identity_router service_router Dial = dial
-stepped_by_relation g after steps dial bind identity_router service_router Bind = bind
-stepped_by_relation g after steps dial bind identity_router service_router IdentityRouter = identity_router
-stepped_by_relation g after steps dial bind identity_router service_router ServiceRouter = service_router
-
--- and so are the pairs that lose their count
-pub emptied_by_relation : (after : GrantsAfter) (steps : GrantSteps) (g : Grants) → AreEmptied steps.dial.items (count_after after.dial) g.dial → AreEmptied steps.bind.items (count_after after.bind) g.bind
-    → AreEmptied steps.identity_router.items (count_after after.identity_router) g.identity_router → AreEmptied steps.service_router.items (count_after after.service_router) g.service_router
-    → (r : Relation) → AreEmptied (steps_of r steps) (counts_after r after) (counts_of r g)
-emptied_by_relation after steps g dial bind identity_router service_router Dial = dial
-emptied_by_relation after steps g dial bind identity_router service_router Bind = bind
-emptied_by_relation after steps g dial bind identity_router service_router IdentityRouter = identity_router
-emptied_by_relation after steps g dial bind identity_router service_router ServiceRouter = service_router
-
 -- settling changes no count
 settled_count : (r : Relation) (t : State) (a b : ℕ) → count r (settle t) a b ≡ count r t a b
 settled_count Dial t a b = refl
@@ -158,16 +140,20 @@ rise_counted s t steps none leads r a b _ some =
 
 -- where the pairs without a count are told at which one falls, what is granted still is at the others
 pub emptied_counted : (s t : State) (steps : GrantSteps) (after : GrantsAfter) (g : Grants) → LeadAllCounts s (settle t) steps → AreGrantsAfter t after
-    → ((r : Relation) → AreEmptied (steps_of r steps) (counts_after r after) (counts_of r g)) → StayCounted g s t
+    → ((r : Relation) → TellEmptied (steps_of r steps) (counts_after r after) (counts_of r g)) → StayCounted g s t
 emptied_counted s t steps after g leads counts emptied r a b none some = by (count r t a b) refl
   where
-    zero_of : (n : ℕ) → nat_lt 0 n ≡ false → n ≡ 0
-    zero_of n e = let most = ltb-false 0 n e in omega (arith, most)
+    untold : count r t a b ≡ 0 → nat_lt 0 (downs (steps_of r steps) a b) ≡ false
+    untold gone = fewer (nat_lt 0 (downs (steps_of r steps) a b)) (counts_after r after a b == 0) (eq-eqb (counts_after r after a b) 0 (counts r a b ∙ gone)) (sym (emptied r a b) ∙ none)
+      where
+        fewer : (x y : Bool) → y ≡ true → (x && y) ≡ false → x ≡ false
+        fewer true y e f = sym e ∙ f
+        fewer false y e f = refl
 
     by : (n : ℕ) → count r t a b ≡ n → nat_lt 0 (count r t a b) ≡ true
     by zero e =
         let moved = (leads r).moves a b in
-        let down = emptied r a b (zero_of (count_of (counts_of r g) a b) none) (counts r a b ∙ e) in
+        let down = ltb-false 0 (downs (steps_of r steps) a b) (untold e) in
         let same = settled_count r t a b in
         let was = ltb-true 0 (count r s a b) some in
         absurd (omega (arith, moved, down, same, was, e))

@@ -19,7 +19,8 @@ use Rattle.grant_denorm.specs.PairCounts.{count_of}
 use Rattle.circuit_settling.specs.OtherLinks.{before_circuits}
 use Rattle.core_stores.specs.declared.stores.Grants.{Grants}
 use Rattle.core_stores.specs.StoredState.{counts_of}
-use Rattle.ctrl_core.specs.LookedCircuits.{host_needs, term_needs, needs, no_pairs}
+use Rattle.circuit_looks.specs.EmptiedPairs.{no_pairs}
+use Rattle.circuit_looks.specs.LookedCircuits.{host_needs, term_needs, needs}
 use Rattle.record_tables.specs.AfterChange.{changed_by}
 use Rattle.terminators.specs.declared.changes.TermChange.{TermChange}
 use Rattle.terminators.specs.declared.changes.TermChange.TheVariants as term

@@ -1,37 +1,31 @@
 ghost use Rattle.std.specs.Prelude.{◌≡◌, ◌==◌, ◌&&◌, ◌||◌, [], length, IfOk};
-ghost use Rattle.ctrl_model.specs.declared.kinds.Relation.{Relation};
-ghost use Rattle.ctrl_model.specs.Numbered.{numbers};
 ghost use Rattle.record_tables.specs.AfterChange.{changed_by};
 ghost use Rattle.entity_store.specs.EntityChanges.{after_entity_change};
 ghost use Rattle.fallen_records.specs.FallenRecords.{Falls};
 ghost use Rattle.core_stores.specs.ChangeParts.{entity_part};
-ghost use Rattle.policy_store.specs.StepsOfRelations.{steps_of, takes_nothing};
-ghost use Rattle.circuit_settling.specs.OtherLinks.{granted_at, keeps_at};
+ghost use Rattle.policy_store.specs.StepsOfRelations.{takes_nothing};
 ghost use Rattle.circuit_settling.specs.PresentRecords.{Remains};
 ghost use Rattle.grant_steps.specs.LeadingSteps.{LeadAllCounts};
-ghost use Rattle.core_stores.specs.StoredState.{counts_of, state_of};
-ghost use Rattle.grant_denorm.specs.TakenSteps.{HaveRoom, Taken};
+ghost use Rattle.core_stores.specs.StoredState.{state_of};
 ghost use Rattle.ctrl_core.specs.ChangedStores.{CanSettle, next_state};
 ghost use Rattle.ctrl_core.specs.KeptState.{Keeps, IsGranted};
 ghost use Rattle.ctrl_core.specs.Changes.{after_change};
-ghost use Rattle.ctrl_core.specs.LookedCircuits.{LooksAt, going_by};
-ghost use Rattle.ctrl_core.specs.SettledParts.{bare_state_of, NamesBy, AreGrantsAfter, counts_after};
+ghost use Rattle.ctrl_core.specs.LookedCircuits.{LooksAt};
+ghost use Rattle.ctrl_core.specs.SettledParts.{bare_state_of, NamesBy, AreGrantsAfter};
 ghost use Rattle.ctrl_core.specs.PlannedCommands.{Stands};
 ghost use Rattle.ctrl_core.specs.SettledRecords.{AreJudged, AreSettled};
 
-use crate::looking::{Look, goes_none, look_by};
-use circuit_settling::{
-    GrantsAfter, Judged, Present, Remaining, going_after, going_among, judged, remaining_of,
-};
+use crate::looking::look_by;
+use circuit_looks::{Look, goes_none, going_by, grants_after};
+use circuit_settling::{GrantsAfter, Judged, Present, Remaining, judged, remaining_of};
 use circuits::{CircuitsAfter, Moves};
-use core_stores::{Change, Grants, Settled, Stores};
+use core_stores::{Change, Settled, Stores};
 use ctrl_model::Numbers;
 use entity_store::EntitiesAfter;
 use fabric_graph::FabricAfter;
 use fallen_records::{
     Fallen, Standing, nothing, settled_by_entity, settled_by_link, settled_by_term,
 };
-use grant_denorm::CountedAfter;
 use policy_store::GrantSteps;
 use std::alloc::{AllocError, Global};
 use terminators::TerminatorsAfter;
@@ -62,54 +56,11 @@ fn what_remains(alloc: Global, stores: &Stores, change: &Change) -> Result<Remai
     remaining_of(alloc, &entities)
 }
 
-// The grant counts after some steps.
-fn grants_after<'a>(
-    alloc: Global,
-    grants: &'a Grants,
-    steps: &GrantSteps,
-) -> Result<GrantsAfter<'a>, AllocError>
-    requires { (r : Relation) → HaveRoom (counts_of r grants.now) (steps_of r steps.now) }
-    ensures { IfOk result (λ after. (r : Relation) → Taken (counts_of r grants.now) (counts_after r after) (steps_of r steps.now)) }
-{
-    Ok(GrantsAfter {
-        dial: CountedAfter::new(alloc, &grants.dial, steps.dial.as_slice())?,
-        bind: CountedAfter::new(alloc, &grants.bind, steps.bind.as_slice())?,
-        identity_router: CountedAfter::new(
-            alloc,
-            &grants.identity_router,
-            steps.identity_router.as_slice(),
-        )?,
-        service_router: CountedAfter::new(
-            alloc,
-            &grants.service_router,
-            steps.service_router.as_slice(),
-        )?,
-    })
-}
-
 // Whether it is known that what granted each circuit that there was stands: there was none, or no count falls.
 fn stays_granted(stores: &Stores, steps: &GrantSteps, granted: bool) -> bool
     ensures { result ≡ (length stores.now.circuits.circuits.rows == 0 || (granted && takes_nothing steps.now)) }
 {
     stores.circuits.count() == 0 || (granted && steps.takes_nothing())
-}
-
-// The circuits that do not stay as they are, of those that are looked at.
-fn going_by(
-    alloc: Global,
-    circuits: &CircuitsAfter,
-    present: &Present,
-    grants: &GrantsAfter,
-    pathless: &Numbers,
-    look: &Look,
-) -> Result<Numbers, AllocError>
-    ensures { IfOk result (λ ns. ns ≡ going_by look.now pathless.now (numbers circuits.now.circuits.rows) (granted_at present.now grants.now circuits.now.circuits.rows) (keeps_at present.now grants.now circuits.now.circuits.rows)) }
-{
-    match look {
-        Look::Paths => going_after(alloc, circuits, present, grants, pathless, true),
-        Look::These(numbers) => going_among(alloc, circuits, present, grants, numbers),
-        Look::All => going_after(alloc, circuits, present, grants, pathless, false),
-    }
 }
 
 // What becomes of the circuits that do not stay as they are, beside what remains and what is granted.

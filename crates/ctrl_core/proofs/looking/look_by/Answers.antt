@@ -3,7 +3,7 @@ use Rattle.std.specs.List.{filter}
 use Rattle.core_stores.specs.StoredState.{state_of}
 use Rattle.model_laws.proofs.RevokedLaws.{AreGranted-from}
 use Rattle.ctrl_core.specs.Changes.{after_change}
-use Rattle.ctrl_core.specs.LookedCircuits.{is_looked_at}
+use Rattle.circuit_looks.specs.LookedCircuits.{is_looked_at}
 use Rattle.ctrl_core.proofs.LookedCircuits.{no_part, still_of, still_routed}
 use Rattle.ctrl_core.proofs.StepLaws.{emptied_counted, without_pairs}
 use Rattle.ctrl_core.proofs.looking.look_by.Goals as goal

@@ -1,6 +1,6 @@
 use Rattle.std.proofs.Common.{sym, ◌∙◌}
-use Rattle.ctrl_core.specs.declared.looking.Look.TheVariants.{Paths}
-use Rattle.ctrl_core.proofs.JudgedChanges.{settled_alone}
+use Rattle.circuit_looks.specs.declared.looking.Look.TheVariants.{Paths}
+use Rattle.ctrl_core.proofs.JudgedChanges.{is_none, settled_alone}
 use Rattle.ctrl_core.proofs.SettledChanges.{settles}
 use Rattle.ctrl_core.proofs.StepLaws.{stay_granted}
 use Rattle.ctrl_core.proofs.settling.settled_by.Goals as goal
@@ -16,4 +16,4 @@ returns-then-stays_granted c =
     let out = c.without_circuits.ensures in
     settled_alone c.args.change.now c.args.stores.now fallen c.requires.can falls Paths c.requires.stands
     (stay_granted c.args.change.now c.args.stores.now c.requires.can fallen.circuits c.args.granted c.args.steps.now c.requires.granted c.requires.counts (sym c.stays_granted.ensures ∙ c.if-stays_granted.true))
-    (c.is_empty.ensures.0 c.if-is_empty.true) c.without_circuits.result out.links out.terminators out.going out.ended out.moves
+    (is_none _ (c.is_empty.ensures.0 c.if-is_empty.true)) c.without_circuits.result out.links out.terminators out.going out.ended out.moves

@@ -1,3 +1,4 @@
+use Rattle.std.proofs.Common.{sym, ◌∙◌}
 use Rattle.core_stores.specs.StoredState.{state_of}
 use Rattle.ctrl_core.specs.Changes.{after_change}
 use Rattle.ctrl_core.proofs.JudgedChanges.{settled_alone}
@@ -19,7 +20,7 @@ pub returns-then-goes_none : goal.returns-then-goes_none
 returns-then-goes_none c =
     let out = c.without_circuits.ensures in
     settled_alone c.args.change.now c.args.stores.now c.args.fallen c.requires.can c.requires.falls c.in_ok-look.look c.requires.stands c.in_ok-look.ensures
-    (c.goes_none.ensures c.if-goes_none.true) c.without_circuits.result out.links out.terminators out.going out.ended out.moves
+    (sym c.goes_none.ensures ∙ c.if-goes_none.true) c.without_circuits.result out.links out.terminators out.going out.ended out.moves
 
 pub returns : goal.returns
 returns c = record { links_are = c.requires.falls.links_are; terms_are = c.requires.falls.terms_are; judged = c.in_ok-going.ensures }

@@ -1,5 +1,5 @@
-use Rattle.ctrl_core.proofs.StepLaws.{emptied_by_relation}
-use Rattle.ctrl_core.proofs.looking.emptied_pairs.Goals as goal
+use Rattle.circuit_looks.proofs.EmptiedLaws.{emptied_by_relation}
+use Rattle.circuit_looks.proofs.emptying.emptied_pairs.Goals as goal
 
 pub returns : goal.returns
 returns c =

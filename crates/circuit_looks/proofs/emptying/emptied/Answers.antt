@@ -3,9 +3,9 @@ use Rattle.std.proofs.lemmas.Bool.{and_parts}
 use Rattle.grant_denorm.specs.declared.deltas.Delta.{Delta}
 use Rattle.grant_denorm.specs.CountsAfter.{count_after}
 use Rattle.grant_denorm.specs.PairCounts.{count_of}
-use Rattle.ctrl_core.proofs.EmptiedPairs.{passed, raised}
-use Rattle.ctrl_core.proofs.looking.emptied.Goals as goal
-use Rattle.ctrl_core.proofs.looking.emptied.Goals.{then-empties+in_ok-raise, else-empties}
+use Rattle.circuit_looks.proofs.EmptiedLaws.{passed, raised}
+use Rattle.circuit_looks.proofs.emptying.emptied.Goals as goal
+use Rattle.circuit_looks.proofs.emptying.emptied.Goals.{then-empties+in_ok-raise, else-empties}
 
 pub raise-requires : goal.raise-requires
 raise-requires c =
@@ -20,7 +20,7 @@ steps-preserved c =
     let none : Delta = record { a = 0; b = 0; up = false } in
     elim c.if-empties.branch [
       | then-empties+in_ok-raise w ↦ rw w.pairs-is
-          (raised c.args.steps.now (count_after c.args.after.now) c.steps.step-index none c.steps-test.true c.steps.pairs w.raise.new.self w.in_ok-raise.ensures.ok c.steps.invariant)
+          (raised c.args.steps.now (count_after c.args.after.now) c.steps.step-index none c.steps-test.true c.steps.pairs w.raise.new.self (sym c.empties.ensures ∙ w.if-empties.true) w.in_ok-raise.ensures.ok c.steps.invariant)
       | else-empties w ↦ rw w.pairs-is
           (passed c.args.steps.now (count_after c.args.after.now) c.steps.step-index none c.steps-test.true c.steps.pairs (sym c.empties.ensures ∙ w.if-empties.false) c.steps.invariant)
     ]

@@ -1,7 +1,7 @@
 use Rattle.std.proofs.Common.{◌≡◌, ◌++◌, drop}
 use Rattle.std.specs.List.{filter}
-use Rattle.ctrl_core.specs.LookedCircuits.{is_looked_at}
-use Rattle.ctrl_core.proofs.looking.looked_at.Given as goal
+use Rattle.circuit_looks.specs.LookedCircuits.{is_looked_at}
+use Rattle.circuit_looks.proofs.looking.looked_at.Given as goal
 
 abbrev pub invariant-circuits : goal.invariant-circuits
 invariant-circuits l =
