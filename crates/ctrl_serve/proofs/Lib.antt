@@ -20,6 +20,7 @@ pub mod CutLaws
 pub mod RunLaws
 pub mod IntakeLaws
 pub mod LoadRuns
+pub mod UncountedRuns
 pub mod OpenedMachines
 pub mod ClosedFolders
 pub mod GrantedRuns

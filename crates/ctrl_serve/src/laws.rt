@@ -3,7 +3,8 @@ ghost use Rattle.std.specs.declared.option.Option.{Option};
 ghost use Rattle.channel_frame.specs.declared.frames.Frame.{Frame};
 ghost use Rattle.channel_frame.specs.StreamReading.{Reads, fault_of, frames_of, rest_of};
 ghost use Rattle.ctrl_model.specs.declared.kinds.Who.TheVariants.{Admin};
-ghost use Rattle.ctrl_model.specs.State.{State};
+ghost use Rattle.ctrl_model.specs.Limits.{last_serial};
+ghost use Rattle.ctrl_model.specs.State.{State, start};
 ghost use Rattle.ctrl_model.specs.ValidState.{ValidState};
 ghost use Rattle.ctrl_keep.specs.KeptMachine.{Machine};
 ghost use Rattle.policy_advisor.specs.Reports.{report_of};
@@ -27,7 +28,7 @@ ghost use Rattle.ziti_outside.specs.declared.desk.Part.TheVariants.{Mark};
 ghost use Rattle.journal_core.specs.Room.{IsWithin};
 ghost use Rattle.ziti_outside.specs.Images.{Image};
 ghost use Rattle.ctrl_serve.specs.SaidReplies.{SaysAll, SaysFront, joined, AreWhole, AreCut};
-ghost use Rattle.ctrl_serve.specs.FrameAnswer.{answers, each_reply, last_machine, machine_behind_alone, replies, spoken_alone};
+ghost use Rattle.ctrl_serve.specs.FrameAnswer.{alone, answers, each_reply, last_machine, machine_behind_alone, no_bounds, replies, spoken_alone};
 ghost use Rattle.run_notes.specs.Endings.{ending, is_kept};
 ghost use Rattle.run_notes.specs.Inputs.{events_in};
 ghost use Rattle.ctrl_serve.specs.Reading.{is_decided, StaysNear};
@@ -36,7 +37,8 @@ ghost use Rattle.run_notes.specs.NotedLines.{NotesLines};
 ghost use Rattle.ctrl_serve.specs.Headline.{Serves, Replays, Runs, Taking, taking_of, folder_bounds, IsLeftAlone};
 ghost use Rattle.ctrl_serve.specs.LeftFolders.{HoldsAlone, HoldsGranted, KeepsAllFrames};
 ghost use Rattle.ctrl_serve.specs.UncompactedFolders.{ask_for_compact, CompactsNothing, LeavesOtherSlot};
-ghost use Rattle.ctrl_serve.specs.Loads.{counts_line, IsSaid, SaysOneLine};
+ghost use Rattle.load_gen.specs.LoadFrames.{load_frames};
+ghost use Rattle.ctrl_serve.specs.Loads.{counts_line, state_of_load, IsSaid, SaysOneLine};
 ghost use Rattle.ctrl_serve.specs.ShipWords.{SaysOf};
 ghost use Rattle.ctrl_serve.specs.RunStops.{StopFinds, HoldsFirst};
 ghost use Rattle.ctrl_serve.specs.OpenedFolders.{OpensTo};
@@ -281,4 +283,15 @@ pub fn damage_changes_nothing<S: Source, D: Desk>()
     ensures place { (bounds : Bounds) (words : List (List ℕ)) (source source_now : S) (desk desk_now : D)
         → Runs (record { left = S.left; faults = S.faults; tells = D.tells; seen = D.seen; stopped = D.stopped }) bounds words (form_of words) source source_now desk desk_now Damaged
         → IsTrue D.tells → (part : Part) × (at : ℕ) × IsStateless (D.seen desk).reads part at × NotesLines (damaged_note part at) (D.seen desk) (D.seen desk_now) }
+{}
+
+/// Without a folder no change is counted: behind the frames of any input under `dry`, and behind those of any load, the serial is that of the
+/// start. So it is at most the number of the frames, and the last serial is never met: no frame is refused for it, and no want of memory stands
+/// for it.
+pub fn nothing_is_counted_without_a_folder()
+    ensures dry { (used : List ℕ) → (last_machine Plain no_bounds (alone start) used).state.serial ≡ start.serial }
+    ensures dry_within { (used : List ℕ) → (last_machine Plain no_bounds (alone start) used).state.serial ≤ length (completed Plain used) }
+    ensures load { (number : ℕ) → (state_of_load number).serial ≡ start.serial }
+    ensures load_within { (number : ℕ) → (state_of_load number).serial ≤ length (load_frames number) }
+    ensures below { start.serial < last_serial }
 {}

@@ -3,8 +3,6 @@
 #![tactic(auto)]
 
 #[cfg(test)]
-mod checks;
-#[cfg(test)]
 mod damaged_folders;
 #[cfg(test)]
 mod folder_cases;

@@ -13,7 +13,7 @@ use Rattle.ship_core.specs.declared.records.Way.{Way}
 use Rattle.ship_core.specs.declared.shipments.Shipment.{Shipment}
 use Rattle.ship_core.specs.Pieces.{whole_type, next_type, piece_count, frames_of, frames_of_all}
 use Rattle.ship_core.specs.Shipping.{rows_behind, rows_behind_all, serial_or_none, shipments_from, shipments, is_from, AreSpelled}
-use Rattle.ship_core.specs.Steps.{ShipsFrames, Passes, HasRead, serial_after, type_at, type_behind, shipment_of, frames_if}
+use Rattle.ship_core.specs.Steps.{ShipsFrames, Passes, leg_of, HasRead, serial_after, type_at, type_behind, shipment_of, frames_if}
 use Rattle.ship_core.proofs.OpsLaws.{ops_spelled, serial_leads}
 use Rattle.ship_core.proofs.PieceLaws.{frames_count, frames_go_on}
 use Rattle.ship_core.proofs.SaidLaws.{ShipsFrames-then, ships_same}
@@ -130,7 +130,7 @@ read_passed from way next frames all ops batch made further serial read =
 
 -- A record was not passed.
 pub read_fails : {D : Type 0} {seen : D → Seen} {stopped : D → Stopped} {old mid new : D} (tells : Bool) (from : ℕ) (way : Way) (frames : List Frame) (fault : ShipFault)
-    → HasRead from way frames → ShipsFrames seen stopped old mid None frames → Passes tells seen stopped from way mid new (Err fault) frames
+    → HasRead from way frames → ShipsFrames seen stopped old mid None frames → Passes tells seen stopped (leg_of from way frames) mid new (Err fault)
     → (batches : List (List ℕ)) × AreSpelled batches × ShipsFrames seen stopped old new (Some fault) (frames_of_all 0 (filter (is_from from) (shipments Two batches)))
 read_fails tells from way frames fault read before p =
     let bytes = batch_bytes p.ops in (

@@ -23,7 +23,7 @@ use Rattle.ship_core.specs.declared.shipments.Shipment.{Shipment}
 use Rattle.ship_core.specs.Faults.{fault_of, disk_failure}
 use Rattle.ship_core.specs.Pieces.{piece_count, frames_of, frames_of_all}
 use Rattle.ship_core.specs.Shipping.{is_from, shipments_from, rows_behind_all, shipped}
-use Rattle.ship_core.specs.Steps.{ShipsFrames, IsOnItsWay, Passes, serial_after, type_at, shipment_of, frames_if}
+use Rattle.ship_core.specs.Steps.{ShipsFrames, IsOnItsWay, Passes, leg_of, serial_after, type_at, shipment_of, frames_if}
 use Rattle.ship_core.proofs.PieceLaws.{frames_count}
 use Rattle.ship_core.proofs.SaidLaws.{nothing_done, reads_ships, ShipsFrames-then, ShipsFrames-wider}
 use Rattle.ship_core.proofs.WayLaws.{shipped_as, one_further, among_left, at_end}
@@ -82,7 +82,7 @@ no_pieces from place way = by (is_from from (shipment_of way []))
 -- The record was not read.
 pub not_read : {D : Type 0} {seen : D → Seen} {stopped : D → Stopped} {old new : D} (tells : Bool) (from : ℕ) (way : Way) (frames : List Frame) (fault : ShipFault)
     → (Some fault ≡ Some Write → ⊥) → OnlyReads seen stopped old new → HasCause (seen old).disk_faults (seen new).disk_faults (disk_failure (Some fault))
-    → Passes tells seen stopped from way old new (Err fault) frames
+    → Passes tells seen stopped (leg_of from way frames) old new (Err fault)
 not_read {seen = seen} {old = old} tells from way frames fault unwritten r cause = record {
   all = [];
   ops = [];
@@ -113,7 +113,7 @@ pub read_said : {D : Type 0} {seen : D → Seen} {stopped : D → Stopped} {old 
     → ShipsFrames seen stopped mid new (fault_of r) (frames_if from (length frames) (shipment_of way ops))
     → IfOk r (λ w. (w.at ≡ place) × (w.serial ≡ serial_after way.serial ops))
     → IfOk r (λ w. w.sequence ≡ (length frames + length (frames_if from (length frames) (shipment_of way ops))) % 2 ^ 32)
-    → Passes tells seen stopped from way old new r frames
+    → Passes tells seen stopped (leg_of from way frames) old new r
 read_said {seen = seen} {old = old} tells stored from way frames ops place r batch some kept found reads cause said on sequence = record {
   all = frames_if from (length frames) (shipment_of way ops);
   ops = ops;
@@ -147,7 +147,7 @@ on_later reads now from way frames e on = subst (λ (i : Image). IsOnItsWay i fr
 -- A record on the way was not passed.
 pub way_fails : {D : Type 0} {seen : D → Seen} {stopped : D → Stopped} {old mid new : D} (tells : Bool) (from : ℕ) (way : Way) (frames : List Frame) (fault : ShipFault) (batches : List (List ℕ))
     → IsTrue tells → Stands Two (seen old).reads batches → ShipsFrames seen stopped old mid None frames → IsOnItsWay (seen old).reads from way frames
-    → Passes tells seen stopped from way mid new (Err fault) frames → ShipsFrames seen stopped old new (Some fault) (shipped from Two batches)
+    → Passes tells seen stopped (leg_of from way frames) mid new (Err fault) → ShipsFrames seen stopped old new (Some fault) (shipped from Two batches)
 way_fails {seen = seen} {old = old} {mid = mid} tells from way frames fault batches told stands before on p =
     let here : IsOnItsWay (seen mid).reads from way frames = on_later (seen old).reads (seen mid).reads from way frames before.alone.parts on in
     let first = p.first told here in

@@ -76,18 +76,29 @@ pub record HasRead (from : ℕ) (way : Way) (frames : List Frame) : Type 0 where
   pub serial : way.serial ≡ serial_or_none (rows_behind_all [] batches)
   pub said : frames ≡ frames_of_all 0 (filter (is_from from) (shipments Two batches))
 
+-- A shipping from a serial on that has come so far, and these frames of it.
+pub record Leg : Type 0 where
+  pub from : ℕ
+  pub way : Way
+  pub frames : List Frame
+
+-- It, by these.
+abbrev pub leg_of : ℕ → Way → List Frame → Leg
+leg_of from way frames = record { from = from; way = way; frames = frames }
+
 -- What a step past one record made: its frames, and how far the shipping has come. They are those of a batch; where none was read there are none,
 -- as of the batch without operations.
-pub record Passes {D : Type 0} (tells : Bool) (seen : D → Seen) (stopped : D → Stopped) (from : ℕ) (way : Way) (old new : D) (result : Result Way ShipFault) (frames : List Frame) : Type 0 where
+pub record Passes {D : Type 0} (tells : Bool) (seen : D → Seen) (stopped : D → Stopped) (leg : Leg) (old new : D) (result : Result Way ShipFault) : Type 0 where
   pub all : List Frame
   pub ops : List Op
   pub batch : IsBatch ops
-  pub made : all ≡ frames_if from (length frames) (shipment_of way ops)
-  pub serial : IfOk result (λ next. next.serial ≡ serial_after way.serial ops)
+  pub made : all ≡ frames_if leg.from (length leg.frames) (shipment_of leg.way ops)
+  pub serial : IfOk result (λ next. next.serial ≡ serial_after leg.way.serial ops)
   pub ships : ShipsFrames seen stopped old new (fault_of result) all
-  pub sequence : IfOk result (λ next. next.sequence ≡ (length frames + length all) % 2 ^ 32)
-  pub told : IsTrue tells → IsOnItsWay (seen old).reads from way frames → IfOk result (λ next. IsOnItsWay (seen old).reads from next (frames ++ all))
-  pub first : IsTrue tells → (on : IsOnItsWay (seen old).reads from way frames) → (more : List Frame) × (frames ++ (all ++ more) ≡ shipped from Two (on.before ++ on.after))
+  pub sequence : IfOk result (λ next. next.sequence ≡ (length leg.frames + length all) % 2 ^ 32)
+  pub told : IsTrue tells → IsOnItsWay (seen old).reads leg.from leg.way leg.frames → IfOk result (λ next. IsOnItsWay (seen old).reads leg.from next (leg.frames ++ all))
+  pub first : IsTrue tells → (on : IsOnItsWay (seen old).reads leg.from leg.way leg.frames)
+      → (more : List Frame) × (leg.frames ++ (all ++ more) ≡ shipped leg.from Two (on.before ++ on.after))
 
 -- A fault that comes of a folder that was found to open: it is not damaged.
 abbrev pub IsUndamaged : ShipFault → Type 0

@@ -9,7 +9,7 @@ ghost use Rattle.channel_frame.specs.declared.frames.Frame.{Frame};
 ghost use Rattle.row_codec.specs.Batches.{bytes_cmp, batch_bytes, IsBatch};
 ghost use Rattle.row_store.specs.GateBatches.{IsGateOf, IsBatchAt};
 ghost use Rattle.ship_core.specs.Faults.{fault_of, disk_failure};
-ghost use Rattle.ship_core.specs.Steps.{ShipsFrames, IsOnItsWay, Passes, IsUndamaged, serial_by, serial_after, type_at, shipment_of, frames_if};
+ghost use Rattle.ship_core.specs.Steps.{ShipsFrames, IsOnItsWay, Passes, leg_of, IsUndamaged, serial_by, serial_after, type_at, shipment_of, frames_if};
 
 use crate::faults::{ShipFault, of_store};
 use crate::pieces::{NEXT, WHOLE};
@@ -161,7 +161,7 @@ pub(crate) fn pass_record<D: Desk>(
     requires format { store.now.format ≡ Two }
     requires within { way.at < store.now.end }
     requires told { IsTrue D.tells → (frames : List Frame) × IsOnItsWay (D.seen desk.old).reads from way frames }
-    ensures passes { (frames : List Frame) → way.sequence ≡ length frames % 2 ^ 32 → Passes D.tells D.seen D.stopped from way desk.old desk.new result frames }
+    ensures passes { (frames : List Frame) → way.sequence ≡ length frames % 2 ^ 32 → Passes D.tells D.seen D.stopped (leg_of from way frames) desk.old desk.new result }
     ensures further { IfOk result (λ next. way.at < next.at) }
     ensures fault { IfErr result (λ fault. IsTrue D.tells → IsUndamaged fault) }
 {
