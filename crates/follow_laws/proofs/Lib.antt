@@ -1,0 +1,5 @@
+mod SpelledBatches
+mod HistoryStates
+mod DecidedBatches
+mod TakenFrames
+mod OrderedFrames
