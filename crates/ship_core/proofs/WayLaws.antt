@@ -221,7 +221,7 @@ one_further reads stored from way next frames ops some kept found serial on =
           serial = told ∙ ap serial_or_none (sym rows_now);
           left =
               ap (λ (r : ByteRows). (frames ++ fresh) ++ frames_of_all (length (frames ++ fresh)) (filter (is_from from) (shipments_from (sort_at next.at) r more))) rows_now
-              ∙ ap (λ (t : ℕ). (frames ++ fresh) ++ frames_of_all (length (frames ++ fresh)) (filter (is_from from) (shipments_from t (rows_behind rows bytes) more))) sort
+              ∙ ap (λ (t : Sort). (frames ++ fresh) ++ frames_of_all (length (frames ++ fresh)) (filter (is_from from) (shipments_from t (rows_behind rows bytes) more))) sort
               ∙ ap (λ (n : ℕ). (frames ++ fresh) ++ frames_of_all n (filter (is_from from) later)) (length-append frames fresh)
               ∙ append_assoc frames fresh (frames_of_all (length frames + length fresh) (filter (is_from from) later))
               ∙ ap (λ (l : List Frame). frames ++ l) (sym parts)
