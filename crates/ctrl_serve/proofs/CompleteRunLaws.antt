@@ -7,7 +7,7 @@ use Rattle.ziti_outside.specs.Views.{Outside, Seen, Stopped}
 use Rattle.ctrl_model.specs.declared.formats.Format.{Format}
 use Rattle.ctrl_model.specs.State.{State}
 use Rattle.slot_files.specs.FolderImage.{Stands}
-use Rattle.ship_core.specs.Pieces.{written}
+use Rattle.ship_frames.specs.Pieces.{written}
 use Rattle.ship_core.specs.Shipping.{shipped}
 use Rattle.policy_advisor.specs.Reports.{report_of}
 use Rattle.row_store.specs.declared.bounds.StoreBounds.{StoreBounds}

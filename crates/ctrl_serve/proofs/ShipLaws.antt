@@ -16,7 +16,7 @@ use Rattle.row_store.proofs.OneStates.{stateless_opens}
 use Rattle.ship_core.specs.declared.faults.ShipFault.{ShipFault}
 use Rattle.ship_core.specs.declared.faults.ShipFault.TheVariants as ship
 use Rattle.ship_core.specs.Faults.{disk_failure, write_failure, Judges, IsUnfound}
-use Rattle.ship_core.specs.Pieces.{written}
+use Rattle.ship_frames.specs.Pieces.{written}
 use Rattle.ship_core.specs.SaidFrames.{OnlyShips, SaysFrames, ShipsJudged}
 use Rattle.ship_core.specs.Shipping.{shipped}
 use Rattle.ctrl_keep.specs.declared.faults.KeepFault.TheVariants as keep

@@ -11,7 +11,7 @@ use Rattle.ctrl_model.specs.ValidState.{ValidState}
 use Rattle.row_codec.specs.StateRows.{HasRows}
 use Rattle.slot_files.specs.FolderImage.{Stands}
 use Rattle.row_store.specs.OpenedStates.{byte_rows_of, OpensToState}
-use Rattle.ship_core.specs.Pieces.{written}
+use Rattle.ship_frames.specs.Pieces.{written}
 use Rattle.ship_core.specs.Shipping.{shipped, AreShippedOf}
 use Rattle.run_notes.specs.declared.status.Status.{Status}
 use Rattle.run_notes.specs.declared.status.Status.TheVariants.{Done, WriteFault, DiskFault, Damaged, NoMemory}

@@ -11,7 +11,7 @@ ghost use Rattle.policy_advisor.specs.Reports.{report_of};
 ghost use Rattle.ctrl_model.specs.declared.formats.Format.{Format};
 ghost use Rattle.slot_files.specs.FolderImage.{Stands};
 ghost use Rattle.row_store.specs.OpenedStates.{OpensToState, IsStateless};
-ghost use Rattle.ship_core.specs.Pieces.{written};
+ghost use Rattle.ship_frames.specs.Pieces.{written};
 ghost use Rattle.ship_core.specs.Shipping.{shipped};
 ghost use Rattle.ctrl_keep.specs.MigratedFolders.{OpensInFirst};
 ghost use Rattle.row_store.specs.declared.bounds.StoreBounds.{StoreBounds};

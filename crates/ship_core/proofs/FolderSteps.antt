@@ -20,7 +20,7 @@ use Rattle.slot_reading.specs.BatchRows.{ByteRows}
 use Rattle.ship_core.specs.declared.faults.ShipFault.{ShipFault}
 use Rattle.ship_core.specs.declared.faults.ShipFault.TheVariants.{Write, Damaged}
 use Rattle.ship_core.specs.Faults.{fault_of, disk_failure, IsOfState, FindFails}
-use Rattle.ship_core.specs.Pieces.{frames_of_all}
+use Rattle.ship_frames.specs.Pieces.{frames_of_all}
 use Rattle.ship_core.specs.SaidFrames.{ShipsJudged}
 use Rattle.ship_core.specs.Shipping.{is_from, shipments, shipped, AreSpelled, AreShippedOf}
 use Rattle.ship_core.specs.Steps.{ShipsFrames, IsUndamaged}

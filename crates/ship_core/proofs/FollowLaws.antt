@@ -5,32 +5,33 @@ use Rattle.std.proofs.lemmas.Bool.{leb-true, le-leb}
 use Rattle.std.proofs.lemmas.List.Elements.{filter-append}
 use Rattle.ctrl_model.specs.declared.formats.Format.TheVariants.{Two}
 use Rattle.slot_reading.specs.BatchRows.{ByteRows, LeadFrom, Give}
-use Rattle.ship_core.specs.declared.shipments.Shipment.{Shipment}
-use Rattle.ship_core.specs.Pieces.{whole_type, next_type}
+use Rattle.ship_frames.specs.declared.shipments.Shipment.{Shipment}
+use Rattle.ship_frames.specs.declared.shipments.Sort.{Sort}
+use Rattle.ship_frames.specs.declared.shipments.Sort.TheVariants.{Whole, Next}
 use Rattle.ship_core.specs.Shipping.{rows_behind, rows_behind_all, serial_or_none, shipments_from, shipments, is_from, chosen, CountOn, Follow, applied}
 use Rattle.ship_core.proofs.ReadLaws.{shipments_append}
 use Rattle.ship_core.proofs.WayLaws.{all_pass, chosen_from, from_less, given_behind, led_behind, led_behind_all, raised, rising, AreFrom}
 
 -- ---- serials follow each other
 
-counting : (first : ℕ) (rows last : ByteRows) (batches : List (List ℕ)) → LeadFrom Two rows batches last → CountOn (serial_or_none rows) (shipments_from first rows batches)
+counting : (first : Sort) (rows last : ByteRows) (batches : List (List ℕ)) → LeadFrom Two rows batches last → CountOn (serial_or_none rows) (shipments_from first rows batches)
 counting first rows last [] l = tt
 counting first rows last (bytes ∷ more) l =
     let same : rows_behind rows bytes ≡ l.0 = led_behind rows l.0 bytes l.1 in (
       ap serial_or_none same ∙ sym (raised rows l.0 l.2),
-      subst (λ (r : ByteRows). CountOn (serial_or_none r) (shipments_from next_type r more)) (sym same) (counting next_type l.0 last more l.3),
+      subst (λ (r : ByteRows). CountOn (serial_or_none r) (shipments_from Next r more)) (sym same) (counting Next l.0 last more l.3),
     )
 
 -- Those of the batches of a folder do.
 pub follows : (batches : List (List ℕ)) (rows : ByteRows) → Give Two batches rows → Follow (shipments Two batches)
 follows [] rows g = tt
 follows (bytes ∷ more) rows g =
-    subst (λ (r : ByteRows). CountOn (serial_or_none r) (shipments_from next_type r more)) (sym (led_behind [] g.0 bytes g.1)) (counting next_type g.0 rows more g.2)
+    subst (λ (r : ByteRows). CountOn (serial_or_none r) (shipments_from Next r more)) (sym (led_behind [] g.0 bytes g.1)) (counting Next g.0 rows more g.2)
 
 -- ---- batches that are applied
 
 -- Nexts are applied one behind another.
-applied_next : (rows : ByteRows) (batches : List (List ℕ)) → applied rows (shipments_from next_type rows batches) ≡ rows_behind_all rows batches
+applied_next : (rows : ByteRows) (batches : List (List ℕ)) → applied rows (shipments_from Next rows batches) ≡ rows_behind_all rows batches
 applied_next rows [] = refl
 applied_next rows (bytes ∷ more) = applied_next (rows_behind rows bytes) more
 
@@ -42,7 +43,7 @@ applied_all held rows first more g = applied_next (rows_behind [] first) more �
 pub whole_leads : (from : ℕ) (held rows : ByteRows) (first : List ℕ) (more : List (List ℕ)) → Give Two (first ∷ more) rows → from ≤ serial_or_none (rows_behind [] first)
     → applied held (chosen from (shipments Two (first ∷ more))) ≡ rows
 whole_leads from held rows first more g low =
-    ap (λ (b : Bool). applied held (cond b (shipments Two (first ∷ more)) (filter (is_from from) (shipments_from next_type (rows_behind [] first) more))))
+    ap (λ (b : Bool). applied held (cond b (shipments Two (first ∷ more)) (filter (is_from from) (shipments_from Next (rows_behind [] first) more))))
     (le-leb from (serial_or_none (rows_behind [] first)) low)
     ∙ applied_all held rows first more g
 
@@ -58,17 +59,17 @@ abbrev AreUpTo : ℕ → List Shipment → Type 0
 AreUpTo n list = AllByRecursion (λ (s : Shipment). s.serial ≤ n) list
 
 -- No batch has a serial above that of the rows behind it.
-risen : (first : ℕ) (rows last : ByteRows) (batches : List (List ℕ)) → LeadFrom Two rows batches last
+risen : (first : Sort) (rows last : ByteRows) (batches : List (List ℕ)) → LeadFrom Two rows batches last
     → (serial_or_none rows ≤ serial_or_none last) × AreUpTo (serial_or_none last) (shipments_from first rows batches)
 risen first rows last [] l = (let same = ap serial_or_none l in omega (arith, same), tt)
 risen first rows last (bytes ∷ more) l =
     let same : rows_behind rows bytes ≡ l.0 = led_behind rows l.0 bytes l.1 in
     let up = raised rows l.0 l.2 in
     let here : serial_or_none (rows_behind rows bytes) ≡ serial_or_none l.0 = ap serial_or_none same in
-    let rest = risen next_type l.0 last more l.3 in
+    let rest = risen Next l.0 last more l.3 in
     let least = rest.0 in (
       omega (arith, up, least),
-      (omega (arith, here, least), subst (λ (r : ByteRows). AreUpTo (serial_or_none last) (shipments_from next_type r more)) (sym same) rest.1),
+      (omega (arith, here, least), subst (λ (r : ByteRows). AreUpTo (serial_or_none last) (shipments_from Next r more)) (sym same) rest.1),
     )
 
 -- What is up to a serial is not from a later one on.
@@ -81,26 +82,26 @@ none_pass from n (s ∷ list) late all = by (is_from from s) refl (none_pass fro
     by false e rest = rest
 
 -- What leads on from rows has later serials than these.
-above : (first : ℕ) (rows last : ByteRows) (batches : List (List ℕ)) → LeadFrom Two rows batches last → AreFrom (serial_or_none rows + 1) (shipments_from first rows batches)
+above : (first : Sort) (rows last : ByteRows) (batches : List (List ℕ)) → LeadFrom Two rows batches last → AreFrom (serial_or_none rows + 1) (shipments_from first rows batches)
 above first rows last [] l = tt
 above first rows last (bytes ∷ more) l =
     let same : rows_behind rows bytes ≡ l.0 = led_behind rows l.0 bytes l.1 in
     let up = raised rows l.0 l.2 in
     let here : serial_or_none (rows_behind rows bytes) ≡ serial_or_none l.0 = ap serial_or_none same in (
       omega (arith, up, here),
-      subst (λ (r : ByteRows). AreFrom (serial_or_none rows + 1) (shipments_from next_type r more)) (sym same)
-          (from_less (serial_or_none rows + 1) (serial_or_none l.0) (shipments_from next_type l.0 more) (omega (arith, up)) (rising next_type l.0 last more l.3)),
+      subst (λ (r : ByteRows). AreFrom (serial_or_none rows + 1) (shipments_from Next r more)) (sym same)
+          (from_less (serial_or_none rows + 1) (serial_or_none l.0) (shipments_from Next l.0 more) (omega (arith, up)) (rising Next l.0 last more l.3)),
     )
 
 -- Of the batches before some rows and of those behind them the latter are chosen from the next serial on.
 chosen_behind : (first : List ℕ) (before after : List (List ℕ)) (mid rows : ByteRows) (g : Give Two (first ∷ (before ++ after)) rows) → LeadFrom Two g.0 before mid → LeadFrom Two mid after rows
-    → chosen (serial_or_none mid + 1) (shipments Two (first ∷ (before ++ after))) ≡ shipments_from next_type mid after
+    → chosen (serial_or_none mid + 1) (shipments Two (first ∷ (before ++ after))) ≡ shipments_from Next mid after
 chosen_behind first before after mid rows g early late =
     chosen_from from (first ∷ (before ++ after)) rows g
-    ∙ ap (filter (is_from from)) (shipments_append whole_type [] (first ∷ before) after ∙ ap (λ (r : ByteRows). these ++ shipments_from next_type r after) led)
+    ∙ ap (filter (is_from from)) (shipments_append Whole [] (first ∷ before) after ∙ ap (λ (r : ByteRows). these ++ shipments_from Next r after) led)
     ∙ filter-append (is_from from) these those
     ∙ ap (λ (l : List Shipment). l ++ filter (is_from from) those) (none_pass from n these (omega arith) up)
-    ∙ all_pass from from those (le-leb from from (omega arith)) (above next_type mid rows after late)
+    ∙ all_pass from from those (le-leb from from (omega arith)) (above Next mid rows after late)
   where
     n : ℕ
     n = serial_or_none mid
@@ -109,10 +110,10 @@ chosen_behind first before after mid rows g early late =
     from = serial_or_none mid + 1
 
     these : List Shipment
-    these = shipments_from whole_type [] (first ∷ before)
+    these = shipments_from Whole [] (first ∷ before)
 
     those : List Shipment
-    those = shipments_from next_type mid after
+    those = shipments_from Next mid after
 
     one : rows_behind [] first ≡ g.0
     one = led_behind [] g.0 first g.1
@@ -122,10 +123,10 @@ chosen_behind first before after mid rows g early late =
 
     up : AreUpTo n these
     up =
-        let rest = risen next_type g.0 mid before early in
+        let rest = risen Next g.0 mid before early in
         let least = rest.0 in
         let here : serial_or_none (rows_behind [] first) ≡ serial_or_none g.0 = ap serial_or_none one in
-        (omega (arith, least, here), subst (λ (r : ByteRows). AreUpTo n (shipments_from next_type r before)) (sym one) rest.1)
+        (omega (arith, least, here), subst (λ (r : ByteRows). AreUpTo n (shipments_from Next r before)) (sym one) rest.1)
 
 -- From the rows of a serial what is shipped from the next one on leads to the rows of the folder.
 pub next_leads : (first : List ℕ) (before after : List (List ℕ)) (rows : ByteRows) → Give Two (first ∷ (before ++ after)) rows

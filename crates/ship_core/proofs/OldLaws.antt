@@ -23,7 +23,7 @@ use Rattle.row_store.specs.RewrittenStores.{compacted}
 use Rattle.row_store.specs.OpenedStates.{byte_rows_of, OpensToState}
 use Rattle.row_store.specs.StoredRows.{Stored, IsStoreOf}
 use Rattle.row_store.proofs.StateRows.{puts_of_state, start_rows, start_valid}
-use Rattle.ship_core.specs.Pieces.{frames_of, frames_of_all}
+use Rattle.ship_frames.specs.Pieces.{frames_of, frames_of_all}
 use Rattle.ship_core.specs.Shipping.{rows_behind_all, old_whole, old_shipments, shipments, chosen, shipped, applied}
 use Rattle.ship_core.proofs.OpsLaws.{ops_spelled}
 use Rattle.ship_core.proofs.WayLaws.{given_behind}

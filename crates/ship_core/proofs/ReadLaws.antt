@@ -10,36 +10,39 @@ use Rattle.row_laws.proofs.RisingRows.{All-append}
 use Rattle.slot_reading.specs.BatchRows.{ByteRows, rows_after}
 use Rattle.ship_core.specs.declared.faults.ShipFault.{ShipFault}
 use Rattle.ship_core.specs.declared.records.Way.{Way}
-use Rattle.ship_core.specs.declared.shipments.Shipment.{Shipment}
-use Rattle.ship_core.specs.Pieces.{whole_type, next_type, piece_count, frames_of, frames_of_all}
+use Rattle.ship_frames.specs.declared.shipments.Shipment.{Shipment}
+use Rattle.ship_frames.specs.declared.shipments.Sort.{Sort}
+use Rattle.ship_frames.specs.declared.shipments.Sort.TheVariants.{Whole, Next}
+use Rattle.ship_frames.specs.Pieces.{piece_count, frames_of, frames_of_all}
 use Rattle.ship_core.specs.Shipping.{rows_behind, rows_behind_all, serial_or_none, shipments_from, shipments, is_from, AreSpelled}
-use Rattle.ship_core.specs.Steps.{ShipsFrames, Passes, leg_of, HasRead, serial_after, type_at, type_behind, shipment_of, frames_if}
+use Rattle.ship_core.specs.Steps.{ShipsFrames, Passes, leg_of, HasRead, serial_after, sort_at, sort_behind, shipment_of, frames_if}
 use Rattle.ship_core.proofs.OpsLaws.{ops_spelled, serial_leads}
-use Rattle.ship_core.proofs.PieceLaws.{frames_count, frames_go_on}
+use Rattle.ship_frames.proofs.PieceLaws.{frames_count}
+use Rattle.ship_core.proofs.PieceLaws.{frames_go_on}
 use Rattle.ship_core.proofs.SaidLaws.{ShipsFrames-then, ships_same}
-use Rattle.ship_core.proofs.WayLaws.{shipped_as, behind_push, type_past}
+use Rattle.ship_core.proofs.WayLaws.{shipped_as, behind_push, sort_past}
 
 -- ---- one batch more
 
 -- Behind a Next comes a Next.
-next_behind : (batches : List (List ℕ)) → type_behind next_type batches ≡ next_type
+next_behind : (batches : List (List ℕ)) → sort_behind Next batches ≡ Next
 next_behind [] = refl
 next_behind (bytes ∷ more) = refl
 
 -- And so behind one batch more.
-type_push : (first : ℕ) (batches : List (List ℕ)) (bytes : List ℕ) → type_behind first (batches ++ bytes ∷ []) ≡ next_type
-type_push first [] bytes = refl
-type_push first (x ∷ more) bytes = refl
+sort_push : (first : Sort) (batches : List (List ℕ)) (bytes : List ℕ) → sort_behind first (batches ++ bytes ∷ []) ≡ Next
+sort_push first [] bytes = refl
+sort_push first (x ∷ more) bytes = refl
 
 -- Batches in two parts, as they are shipped.
-pub shipments_append : (first : ℕ) (rows : ByteRows) (these those : List (List ℕ)) → shipments_from first rows (these ++ those)
-    ≡ shipments_from first rows these ++ shipments_from (type_behind first these) (rows_behind_all rows these) those
+pub shipments_append : (first : Sort) (rows : ByteRows) (these those : List (List ℕ)) → shipments_from first rows (these ++ those)
+    ≡ shipments_from first rows these ++ shipments_from (sort_behind first these) (rows_behind_all rows these) those
 shipments_append first rows [] those = refl
 shipments_append first rows (x ∷ more) those =
     let here = rows_behind rows x in
     ap (λ (l : List Shipment). shipped_as first (serial_or_none here) x ∷ l)
-    (shipments_append next_type here more those
-    ∙ ap (λ (t : ℕ). shipments_from next_type here more ++ shipments_from t (rows_behind_all here more) those) (next_behind more))
+    (shipments_append Next here more those
+    ∙ ap (λ (t : Sort). shipments_from Next here more ++ shipments_from t (rows_behind_all here more) those) (next_behind more))
 
 -- The frames of some batches, and of those behind them.
 frames_append : (place : ℕ) (these those : List Shipment) → frames_of_all place (these ++ those) ≡ frames_of_all place these ++ frames_of_all (place + length (frames_of_all place these)) those
@@ -66,7 +69,7 @@ spelled_push batches bytes ops s all = All-append (λ (b : List ℕ). (o : List 
 
 -- Nothing was read at the start.
 pub read_none : (from : ℕ) (way : Way) → way.at ≡ 8 → way.serial ≡ 0 → HasRead from way []
-read_none from way at serial = record { batches = []; spelled = tt; low = omega (arith, at); sort = ap type_at at; serial = serial; said = refl }
+read_none from way at serial = record { batches = []; spelled = tt; low = omega (arith, at); sort = ap sort_at at; serial = serial; said = refl }
 
 -- The serial behind a batch that was read.
 serial_read : (from : ℕ) (way : Way) (frames : List Frame) (ops : List Op) → IsBatch ops → (read : HasRead from way frames)
@@ -85,7 +88,7 @@ read_more from way frames ops batch read =
     ∙ ap (λ (n : ℕ). frames ++ frames_of_all n (filter (is_from from) (last ∷ []))) zero
     ∙ ap (λ (l : List Frame). l ++ frames_of_all (0 + length l) (filter (is_from from) (last ∷ []))) read.said
     ∙ sym (frames_append 0 (filter (is_from from) these) (filter (is_from from) (last ∷ [])))
-    ∙ ap (frames_of_all 0) (sym (filter-append (is_from from) these (last ∷ [])) ∙ ap (filter (is_from from)) (sym (shipments_append whole_type [] read.batches (bytes ∷ []))))
+    ∙ ap (frames_of_all 0) (sym (filter-append (is_from from) these (last ∷ [])) ∙ ap (filter (is_from from)) (sym (shipments_append Whole [] read.batches (bytes ∷ []))))
   where
     bytes : List ℕ
     bytes = batch_bytes ops
@@ -97,10 +100,10 @@ read_more from way frames ops batch read =
     serial = serial_or_none (rows_behind (rows_behind_all [] read.batches) bytes)
 
     last : Shipment
-    last = shipped_as (type_behind whole_type read.batches) serial bytes
+    last = shipped_as (sort_behind Whole read.batches) serial bytes
 
     own : shipment_of way ops ≡ last
-    own = ap (λ (n : ℕ). shipped_as (type_at way.at) n bytes) (serial_read from way frames ops batch read) ∙ ap (λ (t : ℕ). shipped_as t serial bytes) read.sort
+    own = ap (λ (n : ℕ). shipped_as (sort_at way.at) n bytes) (serial_read from way frames ops batch read) ∙ ap (λ (t : Sort). shipped_as t serial bytes) read.sort
 
     zero : length frames ≡ 0 + length frames
     zero = omega arith
@@ -115,7 +118,7 @@ read_further from way next frames ops batch further serial read =
       batches = read.batches ++ bytes ∷ [];
       spelled = spelled_push read.batches bytes ops (record { batch = batch; spelled = refl }) read.spelled;
       low = omega (arith, low, further);
-      sort = type_past next.at (omega (arith, low, further)) ∙ sym (type_push whole_type read.batches bytes);
+      sort = sort_past next.at (omega (arith, low, further)) ∙ sym (sort_push Whole read.batches bytes);
       serial = serial ∙ serial_read from way frames ops batch read ∙ ap serial_or_none (sym (behind_push [] read.batches bytes));
       said = read_more from way frames ops batch read;
     }

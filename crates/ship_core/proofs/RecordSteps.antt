@@ -19,12 +19,12 @@ use Rattle.row_store.specs.StoredRows.{Stored, IsStoreOf}
 use Rattle.ship_core.specs.declared.faults.ShipFault.{ShipFault}
 use Rattle.ship_core.specs.declared.faults.ShipFault.TheVariants.{Write}
 use Rattle.ship_core.specs.declared.records.Way.{Way}
-use Rattle.ship_core.specs.declared.shipments.Shipment.{Shipment}
+use Rattle.ship_frames.specs.declared.shipments.Shipment.{Shipment}
 use Rattle.ship_core.specs.Faults.{fault_of, disk_failure}
-use Rattle.ship_core.specs.Pieces.{piece_count, frames_of, frames_of_all}
+use Rattle.ship_frames.specs.Pieces.{piece_count, frames_of, frames_of_all}
 use Rattle.ship_core.specs.Shipping.{is_from, shipments_from, rows_behind_all, shipped}
-use Rattle.ship_core.specs.Steps.{ShipsFrames, IsOnItsWay, Passes, leg_of, serial_after, type_at, shipment_of, frames_if}
-use Rattle.ship_core.proofs.PieceLaws.{frames_count}
+use Rattle.ship_core.specs.Steps.{ShipsFrames, IsOnItsWay, Passes, leg_of, serial_after, sort_at, shipment_of, frames_if}
+use Rattle.ship_frames.proofs.PieceLaws.{frames_count}
 use Rattle.ship_core.proofs.SaidLaws.{nothing_done, reads_ships, ShipsFrames-then, ShipsFrames-wider}
 use Rattle.ship_core.proofs.WayLaws.{shipped_as, one_further, among_left, at_end}
 
@@ -66,8 +66,8 @@ sequence_behind from place next s made is late e =
     e ∙ ap (λ (n : ℕ). (place + n) % 2 ^ 32) count
 
 -- What was made of a batch that was read on the way is what it is shipped as.
-pub read_shipment : (way : Way) (ops : List Op) (serial : ℕ) → serial ≡ serial_after way.serial ops → shipped_as (type_at way.at) serial (batch_bytes ops) ≡ shipment_of way ops
-read_shipment way ops serial e = ap (λ (n : ℕ). shipped_as (type_at way.at) n (batch_bytes ops)) e
+pub read_shipment : (way : Way) (ops : List Op) (serial : ℕ) → serial ≡ serial_after way.serial ops → shipped_as (sort_at way.at) serial (batch_bytes ops) ≡ shipment_of way ops
+read_shipment way ops serial e = ap (λ (n : ℕ). shipped_as (sort_at way.at) n (batch_bytes ops)) e
 
 -- ---- past one record
 
@@ -99,7 +99,7 @@ not_read {seen = seen} {old = old} tells from way frames fault unwritten r cause
 among_first : (reads : Image) (from : ℕ) (way next : Way) (frames all : List Frame) (on : IsOnItsWay reads from way frames) → IsOnItsWay reads from next (frames ++ all)
     → (more : List Frame) × (frames ++ (all ++ more) ≡ shipped from Two (on.before ++ on.after))
 among_first reads from way next frames all on later =
-    let rest = frames_of_all (length (frames ++ all)) (filter (is_from from) (shipments_from (type_at next.at) (rows_behind_all [] later.before) later.after)) in (
+    let rest = frames_of_all (length (frames ++ all)) (filter (is_from from) (shipments_from (sort_at next.at) (rows_behind_all [] later.before) later.after)) in (
       rest,
       sym (append_assoc frames all rest) ∙ later.left
           ∙ ap (shipped from Two) (one_stands Two Two reads (later.before ++ later.after) (on.before ++ on.after) later.stands on.stands).1,

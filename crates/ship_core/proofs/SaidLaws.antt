@@ -18,7 +18,7 @@ use Rattle.channel_frame.specs.FrameSpelling.{spelling}
 use Rattle.ship_core.specs.declared.faults.ShipFault.{ShipFault}
 use Rattle.ship_core.specs.declared.faults.ShipFault.TheVariants.{Disk, Write, Damaged, NoMemory}
 use Rattle.ship_core.specs.Faults.{fault_of, disk_failure, write_failure}
-use Rattle.ship_core.specs.Pieces.{written}
+use Rattle.ship_frames.specs.Pieces.{written}
 use Rattle.ship_core.specs.SaidFrames.{AreFirst, TookUnless, OnlyShips}
 use Rattle.ship_core.specs.Steps.{ShipsFrames}
 

@@ -22,16 +22,18 @@ use Rattle.row_store.specs.GateBatches.{IsGateOf, IsBatchAt}
 use Rattle.row_store.specs.StoredRows.{Stored, IsStoreOf}
 use Rattle.row_store.proofs.OpeningLaws.{of_slot}
 use Rattle.ship_core.specs.declared.records.Way.{Way}
-use Rattle.ship_core.specs.declared.shipments.Shipment.{Shipment}
-use Rattle.ship_core.specs.Pieces.{whole_type, next_type, frames_of_all}
+use Rattle.ship_frames.specs.declared.shipments.Shipment.{Shipment}
+use Rattle.ship_frames.specs.declared.shipments.Sort.{Sort}
+use Rattle.ship_frames.specs.declared.shipments.Sort.TheVariants.{Whole, Next}
+use Rattle.ship_frames.specs.Pieces.{frames_of_all}
 use Rattle.ship_core.specs.Shipping.{ops_in, rows_behind, rows_behind_all, serial_or_none, shipments_from, is_from, chosen, shipped}
-use Rattle.ship_core.specs.Steps.{serial_after, type_at, shipment_of, frames_if, IsOnItsWay}
+use Rattle.ship_core.specs.Steps.{serial_after, sort_at, shipment_of, frames_if, IsOnItsWay}
 use Rattle.ship_core.proofs.OpsLaws.{ops_spelled, serial_leads}
 use Rattle.ship_core.proofs.PieceLaws.{frames_go_on}
 
--- A batch with this content type and serial.
-abbrev pub shipped_as : (content serial : ℕ) → List ℕ → Shipment
-shipped_as content serial bytes = record { content = content; serial = serial; bytes = bytes }
+-- A batch of this sort and serial.
+abbrev pub shipped_as : Sort → (serial : ℕ) → List ℕ → Shipment
+shipped_as sort serial bytes = record { sort = sort; serial = serial; bytes = bytes }
 
 -- ---- rows behind batches
 
@@ -71,16 +73,16 @@ raised rows next r =
     let new : serial_or_none next ≡ r.0 + 1 = ap (λ (o : Option ℕ). unwrap_or o 0) r.2 in
     omega (arith, old, new)
 
-pub rising : (content : ℕ) (rows last : ByteRows) (batches : List (List ℕ)) → LeadFrom Two rows batches last → AreFrom (serial_or_none rows) (shipments_from content rows batches)
-rising content rows last [] l = tt
-rising content rows last (bytes ∷ more) l =
+pub rising : (sort : Sort) (rows last : ByteRows) (batches : List (List ℕ)) → LeadFrom Two rows batches last → AreFrom (serial_or_none rows) (shipments_from sort rows batches)
+rising sort rows last [] l = tt
+rising sort rows last (bytes ∷ more) l =
     let same : rows_behind rows bytes ≡ l.0 = led_behind rows l.0 bytes l.1 in
     let up = raised rows l.0 l.2 in
     let first : serial_or_none (rows_behind rows bytes) ≡ serial_or_none l.0 = ap serial_or_none same in
-    let later : AreFrom (serial_or_none l.0) (shipments_from next_type l.0 more) = rising next_type l.0 last more l.3 in (
+    let later : AreFrom (serial_or_none l.0) (shipments_from Next l.0 more) = rising Next l.0 last more l.3 in (
       omega (arith, up, first),
-      subst (λ (r : ByteRows). AreFrom (serial_or_none rows) (shipments_from next_type r more)) (sym same)
-          (from_less (serial_or_none rows) (serial_or_none l.0) (shipments_from next_type l.0 more) (omega (arith, up)) later),
+      subst (λ (r : ByteRows). AreFrom (serial_or_none rows) (shipments_from Next r more)) (sym same)
+          (from_less (serial_or_none rows) (serial_or_none l.0) (shipments_from Next l.0 more) (omega (arith, up)) later),
     )
 
 -- What is from a serial on is all of what has at least a later one.
@@ -100,18 +102,18 @@ all_pass from n (s ∷ list) le all = by (is_from from s) refl (all_pass from n 
 
 -- What is chosen of the records of a slot that gives rows are those from the serial on.
 pub chosen_from : (from : ℕ) (batches : List (List ℕ)) (rows : ByteRows) → Give Two batches rows
-    → chosen from (shipments_from whole_type [] batches) ≡ filter (is_from from) (shipments_from whole_type [] batches)
+    → chosen from (shipments_from Whole [] batches) ≡ filter (is_from from) (shipments_from Whole [] batches)
 chosen_from from [] rows g = refl
 chosen_from from (bytes ∷ more) rows g = by (is_from from first) refl
   where
     first : Shipment
-    first = record { content = whole_type; serial = serial_or_none (rows_behind [] bytes); bytes = bytes }
+    first = record { sort = Whole; serial = serial_or_none (rows_behind [] bytes); bytes = bytes }
 
     later : List Shipment
-    later = shipments_from next_type (rows_behind [] bytes) more
+    later = shipments_from Next (rows_behind [] bytes) more
 
     above : AreFrom (serial_or_none (rows_behind [] bytes)) later
-    above = rising next_type (rows_behind [] bytes) rows more (subst (λ (r : ByteRows). LeadFrom Two r more rows) (sym (led_behind [] g.0 bytes g.1)) g.2)
+    above = rising Next (rows_behind [] bytes) rows more (subst (λ (r : ByteRows). LeadFrom Two r more rows) (sym (led_behind [] g.0 bytes g.1)) g.2)
 
     by : (b : Bool) → is_from from first ≡ b → cond b (first ∷ later) (filter (is_from from) later) ≡ cond b (first ∷ filter (is_from from) later) (filter (is_from from) later)
     by true e = ap (λ (l : List Shipment). first ∷ l) (sym (all_pass from (serial_or_none (rows_behind [] bytes)) later e above))
@@ -130,7 +132,7 @@ at_start reads stored from way format kept at serial =
       stands = stands;
       place = at;
       serial = serial;
-      left = ap (λ (n : ℕ). frames_of_all 0 (filter (is_from from) (shipments_from (type_at n) [] kept.batches))) at
+      left = ap (λ (n : ℕ). frames_of_all 0 (filter (is_from from) (shipments_from (sort_at n) [] kept.batches))) at
           ∙ ap (frames_of_all 0) (sym (chosen_from from kept.batches stored.rows give));
     }
 
@@ -161,10 +163,10 @@ gate_within before after =
     omega (arith, whole)
 
 -- Past the first gate there are Nexts.
-pub type_past : (next : ℕ) → 8 < next → type_at next ≡ next_type
-type_past next past = by (next == 8) refl
+pub sort_past : (next : ℕ) → 8 < next → sort_at next ≡ Next
+sort_past next past = by (next == 8) refl
   where
-    by : (b : Bool) → (next == 8) ≡ b → cond b whole_type next_type ≡ next_type
+    by : (b : Bool) → (next == 8) ≡ b → cond b Whole Next ≡ Next
     by true is = let same = eqb-true next 8 is in absurd (omega (arith, same, past))
     by false is = refl
 
@@ -182,7 +184,7 @@ one_further reads stored from way next frames ops some kept found serial on =
     record_here = subst (λ (n : ℕ). IsRecord n found.payload (reads stored.part)) on.place found.stands
 
     by : (after : List (List ℕ)) → Stands Two reads (on.before ++ after)
-        → frames ++ frames_of_all (length frames) (filter (is_from from) (shipments_from (type_at way.at) rows after)) ≡ shipped from Two (on.before ++ after)
+        → frames ++ frames_of_all (length frames) (filter (is_from from) (shipments_from (sort_at way.at) rows after)) ≡ shipped from Two (on.before ++ after)
         → IsOnItsWay reads from next (frames ++ frames_if from (length frames) (shipment_of way ops))
     by [] stands left =
         let slot = stood_slot reads stored (on.before ++ []) some kept stands in
@@ -198,14 +200,14 @@ one_further reads stored from way next frames ops some kept found serial on =
         let told : next.serial ≡ serial_or_none (rows_behind rows bytes) =
         serial ∙ ap (λ (n : ℕ). serial_after n ops) on.serial ∙ sym (serial_leads rows ops spells.batch.rises) ∙ ap (λ (o : List Op). serial_or_none (rows_after rows o)) (sym read) in
         let number : serial_after way.serial ops ≡ serial_or_none (rows_behind rows bytes) = sym serial ∙ told in
-        let shipment : shipment_of way ops ≡ shipped_as (type_at way.at) (serial_or_none (rows_behind rows bytes)) bytes =
-        ap (λ (n : ℕ). shipped_as (type_at way.at) n (batch_bytes ops)) number
-        ∙ ap (shipped_as (type_at way.at) (serial_or_none (rows_behind rows bytes))) (sym spells.spelled) in
+        let shipment : shipment_of way ops ≡ shipped_as (sort_at way.at) (serial_or_none (rows_behind rows bytes)) bytes =
+        ap (λ (n : ℕ). shipped_as (sort_at way.at) n (batch_bytes ops)) number
+        ∙ ap (shipped_as (sort_at way.at) (serial_or_none (rows_behind rows bytes))) (sym spells.spelled) in
         let at : next.at ≡ slot_end (on.before ++ bytes ∷ []) =
         (let long = ap length same in let gate = end-push bytes on.before in let place = on.place in let behind = found.behind in omega (arith, long, gate, place, behind)) in
-        let sort : type_at next.at ≡ next_type =
-        (let place = on.place in let behind = found.behind in type_past next.at (omega (arith, place, behind))) in
-        let later : List Shipment = shipments_from next_type (rows_behind rows bytes) more in
+        let sort : sort_at next.at ≡ Next =
+        (let place = on.place in let behind = found.behind in sort_past next.at (omega (arith, place, behind))) in
+        let later : List Shipment = shipments_from Next (rows_behind rows bytes) more in
         let fresh : List Frame = frames_if from (length frames) (shipment_of way ops) in
         let parts : frames_of_all (length frames) (filter (is_from from) (shipment_of way ops ∷ later)) ≡ fresh ++ frames_of_all (length frames + length fresh) (filter (is_from from) later) =
         frames_go_on from (length frames) (shipment_of way ops) later in
@@ -218,8 +220,8 @@ one_further reads stored from way next frames ops some kept found serial on =
           place = at;
           serial = told ∙ ap serial_or_none (sym rows_now);
           left =
-              ap (λ (r : ByteRows). (frames ++ fresh) ++ frames_of_all (length (frames ++ fresh)) (filter (is_from from) (shipments_from (type_at next.at) r more))) rows_now
-              ∙ ap (λ (t : ℕ). (frames ++ fresh) ++ frames_of_all (length (frames ++ fresh)) (filter (is_from from) (shipments_from t (rows_behind rows bytes) more))) sort
+              ap (λ (r : ByteRows). (frames ++ fresh) ++ frames_of_all (length (frames ++ fresh)) (filter (is_from from) (shipments_from (sort_at next.at) r more))) rows_now
+              ∙ ap (λ (t : Sort). (frames ++ fresh) ++ frames_of_all (length (frames ++ fresh)) (filter (is_from from) (shipments_from t (rows_behind rows bytes) more))) sort
               ∙ ap (λ (n : ℕ). (frames ++ fresh) ++ frames_of_all n (filter (is_from from) later)) (length-append frames fresh)
               ∙ append_assoc frames fresh (frames_of_all (length frames + length fresh) (filter (is_from from) later))
               ∙ ap (λ (l : List Frame). frames ++ l) (sym parts)
@@ -230,7 +232,7 @@ one_further reads stored from way next frames ops some kept found serial on =
 -- The frames of the record behind the next gate are among those that are left.
 pub among_left : (reads : Image) (from : ℕ) (way : Way) (frames : List Frame) (on : IsOnItsWay reads from way frames)
     → (more : List Frame) × (frames ++ ([] ++ more) ≡ shipped from Two (on.before ++ on.after))
-among_left reads from way frames on = (frames_of_all (length frames) (filter (is_from from) (shipments_from (type_at way.at) (rows_behind_all [] on.before) on.after)), on.left)
+among_left reads from way frames on = (frames_of_all (length frames) (filter (is_from from) (shipments_from (sort_at way.at) (rows_behind_all [] on.before) on.after)), on.left)
 
 -- At the last gate nothing is left.
 pub at_end : (reads : Image) (stored : Stored) (from : ℕ) (way : Way) (frames : List Frame) (batches : List (List ℕ)) → IsStoreOf reads stored → stored.format ≡ Two → stored.end ≤ way.at
@@ -238,7 +240,7 @@ pub at_end : (reads : Image) (stored : Stored) (from : ℕ) (way : Way) (frames 
 at_end reads stored from way frames batches kept format late stands on = by on.after on.stands on.left
   where
     by : (after : List (List ℕ)) → Stands Two reads (on.before ++ after)
-        → frames ++ frames_of_all (length frames) (filter (is_from from) (shipments_from (type_at way.at) (rows_behind_all [] on.before) after)) ≡ shipped from Two (on.before ++ after)
+        → frames ++ frames_of_all (length frames) (filter (is_from from) (shipments_from (sort_at way.at) (rows_behind_all [] on.before) after)) ≡ shipped from Two (on.before ++ after)
         → frames ≡ shipped from Two batches
     by [] those left = sym (append-nil frames) ∙ left ∙ ap (shipped from Two) (one_stands Two Two reads (on.before ++ []) batches those stands).1
     by (bytes ∷ more) those left =

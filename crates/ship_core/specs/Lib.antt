@@ -1,4 +1,3 @@
-pub mod Pieces
 pub mod Shipping
 pub mod SaidFrames
 pub mod Faults

@@ -13,7 +13,7 @@ use Rattle.row_codec.specs.StateRows.{HasRows}
 use Rattle.row_store.specs.OpenedStates.{byte_rows_of, OpensToState}
 use Rattle.ship_core.specs.declared.faults.ShipFault.{ShipFault}
 use Rattle.ship_core.specs.declared.faults.ShipFault.TheVariants.{Write}
-use Rattle.ship_core.specs.Pieces.{written}
+use Rattle.ship_frames.specs.Pieces.{written}
 use Rattle.ship_core.specs.Shipping.{AreShippedOf}
 
 -- Frames are the first of some, and all of them where nothing failed.

@@ -1,5 +1,5 @@
 -- What is shipped of a folder: the records of its slot from a serial on, as frames (docs/FORMATS.md, "Ship frames").
-use Rattle.std.specs.Prelude.{◌≡◌, ⊤, ℕ, ◌+◌, ◌==◌, Bool, nat_le, cond, List, [], ◌∷◌, map, filter}
+use Rattle.std.specs.Prelude.{◌≡◌, ⊤, ℕ, ◌+◌, Bool, nat_le, cond, List, [], ◌∷◌, map, filter}
 use Rattle.std.specs.List.{AllByRecursion}
 use Rattle.std.specs.Option.{unwrap_or, option_map_or}
 use Rattle.ctrl_model.specs.declared.formats.Format.{Format}
@@ -11,8 +11,10 @@ use Rattle.row_codec.specs.BatchReading.{front_op}
 use Rattle.row_codec.specs.NarrowedRows.{narrowed}
 use Rattle.slot_reading.specs.BatchRows.{ByteRows, rows_after, serial_of}
 use Rattle.row_store.specs.RewrittenStores.{compacted}
-use Rattle.ship_core.specs.declared.shipments.Shipment.{Shipment}
-use Rattle.ship_core.specs.Pieces.{whole_type, next_type, frames_of_all}
+use Rattle.ship_frames.specs.declared.shipments.Shipment.{Shipment}
+use Rattle.ship_frames.specs.declared.shipments.Sort.{Sort}
+use Rattle.ship_frames.specs.declared.shipments.Sort.TheVariants.{Whole, Next}
+use Rattle.ship_frames.specs.Pieces.{frames_of_all}
 
 -- ---- the rows and the serials of records
 
@@ -40,16 +42,15 @@ serial_or_none rows = unwrap_or (serial_of rows) 0
 
 -- ---- what is shipped
 
--- Batches as they are shipped from rows on: each with the serial of the rows after it, the first one of this content type, and those behind it
--- as Nexts.
-abbrev pub shipments_from : (content : ℕ) → ByteRows → List (List ℕ) → List Shipment
-shipments_from content rows [] = []
-shipments_from content rows (bytes ∷ more) =
-    record { content = content; serial = serial_or_none (rows_behind rows bytes); bytes = bytes } ∷ shipments_from next_type (rows_behind rows bytes) more
+-- Batches as they are shipped from rows on: each with the serial of the rows after it, the first one of this sort, and those behind it as Nexts.
+abbrev pub shipments_from : Sort → ByteRows → List (List ℕ) → List Shipment
+shipments_from sort rows [] = []
+shipments_from sort rows (bytes ∷ more) =
+    record { sort = sort; serial = serial_or_none (rows_behind rows bytes); bytes = bytes } ∷ shipments_from Next (rows_behind rows bytes) more
 
 -- The Whole of a folder of the first format: its serial is 0.
 abbrev pub old_whole : List ℕ → Shipment
-old_whole bytes = record { content = whole_type; serial = 0; bytes = bytes }
+old_whole bytes = record { sort = Whole; serial = 0; bytes = bytes }
 
 -- What is shipped of rows of the first format: the one Whole that puts them all, with their counts narrowed; where there are none, nothing.
 abbrev pub old_shipments : ByteRows → List Shipment
@@ -59,7 +60,7 @@ old_shipments rows = map old_whole (compacted (map narrowed rows))
 -- Next. Of the first format it is the one Whole that puts all rows, with their counts narrowed; where there are no rows there is none.
 abbrev pub shipments : Format → List (List ℕ) → List Shipment
 shipments One batches = old_shipments (rows_behind_all [] batches)
-shipments Two batches = shipments_from whole_type [] batches
+shipments Two batches = shipments_from Whole [] batches
 
 -- Whether a batch has the serial from which on is shipped, or a later one.
 abbrev pub is_from : (from : ℕ) → Shipment → Bool
@@ -101,8 +102,13 @@ abbrev pub Follow : List Shipment → Type 0
 Follow [] = ⊤
 Follow (first ∷ more) = CountOn first.serial more
 
+-- The rows to which a batch is applied where a copy has some: a Whole to none, and a Next to those.
+abbrev pub rows_before : Sort → ByteRows → ByteRows
+rows_before Whole rows = []
+rows_before Next rows = rows
+
 -- The rows of a copy that had some rows, once batches were applied to it, one behind another: a Whole to no rows, and each other one to those that
 -- it has.
 abbrev pub applied : ByteRows → List Shipment → ByteRows
 applied rows [] = rows
-applied rows (s ∷ more) = applied (rows_behind (cond (s.content == whole_type) [] rows) s.bytes) more
+applied rows (s ∷ more) = applied (rows_behind (rows_before s.sort rows) s.bytes) more

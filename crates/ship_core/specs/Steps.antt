@@ -16,10 +16,12 @@ use Rattle.row_codec.specs.Batches.{bytes_cmp, entry_of, batch_bytes, IsBatch}
 use Rattle.slot_reading.specs.BatchRows.{serial_key, serial_in}
 use Rattle.ship_core.specs.declared.faults.ShipFault.{ShipFault}
 use Rattle.ship_core.specs.declared.faults.ShipFault.TheVariants.{Damaged}
-use Rattle.ship_core.specs.declared.shipments.Shipment.{Shipment}
+use Rattle.ship_frames.specs.declared.shipments.Shipment.{Shipment}
 use Rattle.ship_core.specs.declared.records.Way.{Way}
 use Rattle.ship_core.specs.Faults.{fault_of, disk_failure, write_failure}
-use Rattle.ship_core.specs.Pieces.{whole_type, next_type, frames_of, frames_of_all}
+use Rattle.ship_frames.specs.declared.shipments.Sort.{Sort}
+use Rattle.ship_frames.specs.declared.shipments.Sort.TheVariants.{Whole, Next}
+use Rattle.ship_frames.specs.Pieces.{frames_of, frames_of_all}
 use Rattle.ship_core.specs.SaidFrames.{SaysFrames, OnlyShips}
 use Rattle.ship_core.specs.Shipping.{is_from, serial_or_none, rows_behind_all, shipments_from, shipments, shipped, AreSpelled}
 
@@ -39,13 +41,13 @@ abbrev pub serial_after : ℕ → List Op → ℕ
 serial_after serial [] = serial
 serial_after serial (op ∷ ops) = unwrap_or (serial_by op) (serial_after serial ops)
 
--- The content type of the record behind the gate at a place: the first gate has a Whole behind it.
-abbrev pub type_at : ℕ → ℕ
-type_at at = cond (at == 8) whole_type next_type
+-- The sort of the record behind the gate at a place: the first gate has a Whole behind it.
+abbrev pub sort_at : ℕ → Sort
+sort_at at = cond (at == 8) Whole Next
 
 -- A batch as it is shipped that was read on the way.
 abbrev pub shipment_of : Way → List Op → Shipment
-shipment_of way ops = record { content = type_at way.at; serial = serial_after way.serial ops; bytes = batch_bytes ops }
+shipment_of way ops = record { sort = sort_at way.at; serial = serial_after way.serial ops; bytes = batch_bytes ops }
 
 -- The frames of a batch from a place of the output on, where it is shipped from a serial on.
 abbrev pub frames_if : (from place : ℕ) → Shipment → List Frame
@@ -59,20 +61,20 @@ pub record IsOnItsWay (reads : Image) (from : ℕ) (way : Way) (frames : List Fr
   pub stands : Stands Two reads (before ++ after)
   pub place : way.at ≡ slot_end before
   pub serial : way.serial ≡ serial_or_none (rows_behind_all [] before)
-  pub left : frames ++ frames_of_all (length frames) (filter (is_from from) (shipments_from (type_at way.at) (rows_behind_all [] before) after))
+  pub left : frames ++ frames_of_all (length frames) (filter (is_from from) (shipments_from (sort_at way.at) (rows_behind_all [] before) after))
       ≡ shipped from Two (before ++ after)
 
--- The content type of the batch behind some batches, where the first one of all has this: each later one is a Next.
-abbrev pub type_behind : (first : ℕ) → List (List ℕ) → ℕ
-type_behind first [] = first
-type_behind first (bytes ∷ more) = next_type
+-- The sort of the batch behind some batches, where the first one of all is of this: each later one is a Next.
+abbrev pub sort_behind : (first : Sort) → List (List ℕ) → Sort
+sort_behind first [] = first
+sort_behind first (bytes ∷ more) = Next
 
 -- A shipping from a serial on has come so far, whatever the folder reads: it read some batches, and of these it said these frames.
 pub record HasRead (from : ℕ) (way : Way) (frames : List Frame) : Type 0 where
   pub batches : List (List ℕ)
   pub spelled : AreSpelled batches
   pub low : 8 ≤ way.at
-  pub sort : type_at way.at ≡ type_behind whole_type batches
+  pub sort : sort_at way.at ≡ sort_behind Whole batches
   pub serial : way.serial ≡ serial_or_none (rows_behind_all [] batches)
   pub said : frames ≡ frames_of_all 0 (filter (is_from from) (shipments Two batches))
 

@@ -2,7 +2,6 @@
 use Rattle.std.specs.Prelude.{ℕ, List, [], ◌∷◌, ◌++◌}
 use Rattle.ctrl_model.specs.declared.formats.Format.TheVariants as format
 use Rattle.journal_core.specs.WorkedSlots.{batch_of_ann}
-use Rattle.ship_core.specs.declared.shipments.Shipment.{Shipment}
 
 -- The batch that creates the second identity, with the name bob: the next number 3, its row, and the serial 2.
 abbrev pub batch_of_bob : List ℕ
@@ -51,7 +50,3 @@ wide_count = 1 ∷ 9 ∷ 12 ∷ 0 ∷ 0 ∷ 0 ∷ 1 ∷ 0 ∷ 0 ∷ 0 ∷ 1 ∷ 
 -- The same in the second format: the value has two bytes.
 abbrev pub narrow_count : List ℕ
 narrow_count = 1 ∷ 9 ∷ 12 ∷ 0 ∷ 0 ∷ 0 ∷ 1 ∷ 0 ∷ 0 ∷ 0 ∷ 1 ∷ 2 ∷ 0 ∷ 0 ∷ 0 ∷ 3 ∷ 0 ∷ []
-
--- A batch of some bytes as it is shipped: a Next of serial 5.
-abbrev pub next_five : List ℕ → Shipment
-next_five bytes = record { content = 1901; serial = 5; bytes = bytes }

@@ -11,19 +11,9 @@ ghost use Rattle.slot_files.specs.FolderImage.{Stands};
 ghost use Rattle.slot_reading.specs.BatchRows.{ByteRows, Give};
 ghost use Rattle.row_store.specs.OpenedStates.{byte_rows_of, OpensToState};
 ghost use Rattle.row_store.specs.RewrittenStores.{compacted};
-ghost use Rattle.ship_core.specs.declared.shipments.Shipment.{Shipment};
-ghost use Rattle.ship_core.specs.Pieces.{piece_size, piece_count, piece_at, frames_of, written};
+ghost use Rattle.ship_frames.specs.declared.shipments.Shipment.{Shipment};
+ghost use Rattle.ship_frames.specs.Pieces.{written};
 ghost use Rattle.ship_core.specs.Shipping.{rows_behind, rows_behind_all, serial_or_none, old_whole, shipments, chosen, shipped, AreShippedOf, Follow, applied};
-
-/// The pieces of a batch make it again: the bodies of its frames, one behind another, are its bytes. Each has one byte at least and no more
-/// than a piece may have, and each but the last as many.
-pub fn pieces_make_the_batch()
-    ensures joined { (place : ℕ) (s : Shipment) → flat_map (λ f. f.body) (frames_of place s) ≡ s.bytes }
-    ensures count { (place : ℕ) (s : Shipment) → length (frames_of place s) ≡ piece_count s.bytes }
-    ensures some { (bytes : List ℕ) (number : ℕ) → number < piece_count bytes → 1 ≤ length (piece_at number bytes) }
-    ensures most { (bytes : List ℕ) (number : ℕ) → length (piece_at number bytes) ≤ piece_size }
-    ensures whole { (bytes : List ℕ) (number : ℕ) → number + 1 < piece_count bytes → length (piece_at number bytes) ≡ piece_size }
-{}
 
 /// The frames that are shipped can be spelled: their numbers fit, and their headers and bodies keep the limits of frames. So do those of a folder
 /// that is not told. The bytes of frames that can be spelled are read as exactly these frames, with nothing left.

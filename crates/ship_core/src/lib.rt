@@ -4,19 +4,15 @@
 mod faults;
 mod judging;
 mod laws;
-mod pieces;
 mod records;
 mod saying;
-mod shipments;
 mod shipping;
 mod worked;
 
 pub use faults::ShipFault;
 pub use laws::{
-    old_folders_ship_their_state, pieces_make_the_batch, serials_follow,
-    shipped_frames_are_read_again, shipped_leads_to_the_rows,
+    old_folders_ship_their_state, serials_follow, shipped_frames_are_read_again,
+    shipped_leads_to_the_rows,
 };
-pub use pieces::{NEXT, WHOLE};
-pub use shipments::Shipment;
 pub use shipping::ship;
-pub use worked::{worked_old_shipments, worked_pieces, worked_shipments};
+pub use worked::{worked_old_shipments, worked_shipments};

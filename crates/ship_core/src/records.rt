@@ -9,16 +9,15 @@ ghost use Rattle.channel_frame.specs.declared.frames.Frame.{Frame};
 ghost use Rattle.row_codec.specs.Batches.{bytes_cmp, batch_bytes, IsBatch};
 ghost use Rattle.row_store.specs.GateBatches.{IsGateOf, IsBatchAt};
 ghost use Rattle.ship_core.specs.Faults.{fault_of, disk_failure};
-ghost use Rattle.ship_core.specs.Steps.{ShipsFrames, IsOnItsWay, Passes, leg_of, IsUndamaged, serial_by, serial_after, type_at, shipment_of, frames_if};
+ghost use Rattle.ship_core.specs.Steps.{ShipsFrames, IsOnItsWay, Passes, leg_of, IsUndamaged, serial_by, serial_after, sort_at, shipment_of, frames_if};
 
 use crate::faults::{ShipFault, of_store};
-use crate::pieces::{NEXT, WHOLE};
 use crate::saying::say_pieces;
-use crate::shipments::Shipment;
 use batch_codec::write_batch;
 use journal_core::HEADER_LEN;
 use row_codec::{Batch, Op};
 use row_store::Store;
+use ship_frames::{Shipment, Sort};
 use slot_reading::serial_in;
 use std::alloc::{AllocError, Global};
 use ziti_outside::Desk;
@@ -74,21 +73,25 @@ fn serial_after(serial: u64, ops: &[Op]) -> u64
     serial
 }
 
-// The content type of the record behind the gate at a place.
-fn type_at(at: u64) -> u32
-    ensures { result ≡ type_at at }
+// The sort of the record behind the gate at a place.
+fn sort_at(at: u64) -> Sort
+    ensures { result ≡ sort_at at }
 {
-    if at == HEADER_LEN { WHOLE } else { NEXT }
+    if at == HEADER_LEN {
+        Sort::Whole
+    } else {
+        Sort::Next
+    }
 }
 
 // A batch as it is shipped that was read on the way.
 fn shipment_of(alloc: Global, at: u64, serial: u64, batch: &Batch) -> Result<Shipment, AllocError>
     requires { IsBatch batch.now }
-    ensures { IfOk result (λ s. s ≡ record { content = type_at at; serial = serial; bytes = batch_bytes batch.now }) }
+    ensures { IfOk result (λ s. s ≡ record { sort = sort_at at; serial = serial; bytes = batch_bytes batch.now }) }
 {
     let bytes = write_batch(alloc, batch)?;
     Ok(Shipment {
-        content: type_at(at),
+        sort: sort_at(at),
         serial,
         bytes,
     })

@@ -1,13 +1,12 @@
 ghost use Rattle.std.specs.Prelude.{◌≡◌, ◌<◌, ◌+◌, ◌%◌, ◌^◌, ℕ, [], ◌∷◌, IfOk, IfErr};
 ghost use Rattle.channel_frame.specs.FrameSpelling.{KeepsLimits};
 ghost use Rattle.ship_core.specs.Faults.{fault_of};
-ghost use Rattle.ship_core.specs.Pieces.{piece_count, piece_frame, frames_of};
+ghost use Rattle.ship_frames.specs.Pieces.{piece_count, piece_frame, frames_of};
 ghost use Rattle.ship_core.specs.Steps.{ShipsFrames, IsUndamaged};
 
 use crate::faults::ShipFault;
-use crate::pieces::{piece_count, piece_frame};
-use crate::shipments::Shipment;
 use channel_frame::{Frame, encode};
+use ship_frames::{Shipment, piece_count, piece_frame};
 use std::alloc::Global;
 use ziti_outside::{Desk, Failed};
 

@@ -7,21 +7,20 @@ ghost use Rattle.channel_frame.specs.declared.frames.Frame.{Frame};
 ghost use Rattle.slot_files.specs.FolderImage.{Stands};
 ghost use Rattle.row_store.specs.StoredRows.{IsStoreOf};
 ghost use Rattle.ship_core.specs.Faults.{fault_of, disk_failure, write_failure, Judges, IsUnfound};
-ghost use Rattle.ship_core.specs.Pieces.{frames_of_all};
+ghost use Rattle.ship_frames.specs.Pieces.{frames_of_all};
 ghost use Rattle.ship_core.specs.SaidFrames.{SaysFrames, ShipsJudged, OnlyShips};
 ghost use Rattle.ship_core.specs.Shipping.{old_shipments, shipments, is_from, chosen, shipped, AreSpelled, AreShippedOf};
 ghost use Rattle.ship_core.specs.Steps.{ShipsFrames, IsUndamaged};
 
 use crate::faults::ShipFault;
 use crate::judging::open;
-use crate::pieces::WHOLE;
 use crate::records::{Way, pass_record};
 use crate::saying::say_pieces;
-use crate::shipments::Shipment;
 use batch_codec::write_batch;
 use ctrl_model::Format;
 use journal_core::HEADER_LEN;
 use row_store::Store;
+use ship_frames::{Shipment, Sort};
 use std::alloc::Global;
 use ziti_outside::Desk;
 
@@ -41,7 +40,7 @@ fn ship_old<D: Desk>(alloc: Global, desk: &mut D, store: &Store, from: u64) -> R
     }
     let bytes = write_batch(alloc, &rows)?;
     let shipment = Shipment {
-        content: WHOLE,
+        sort: Sort::Whole,
         serial: 0,
         bytes,
     };

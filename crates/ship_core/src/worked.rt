@@ -1,11 +1,10 @@
-ghost use Rattle.std.specs.Prelude.{◌≡◌, [], ◌∷◌, ◌++◌, ◌^◌, ◌+◌, ℕ, List, length, map, take, drop};
-ghost use Rattle.std.specs.declared.option.Option.{Option};
+ghost use Rattle.std.specs.Prelude.{◌≡◌, [], ◌∷◌, ◌++◌, length, map};
 ghost use Rattle.ctrl_model.specs.declared.formats.Format.{Format};
 ghost use Rattle.ctrl_model.specs.declared.formats.Format.TheVariants as format;
 ghost use Rattle.journal_core.specs.WorkedSlots.{batch_of_ann};
-ghost use Rattle.ship_core.specs.Pieces.{piece_count, piece_at, piece_frame, frames_of, written};
+ghost use Rattle.ship_frames.specs.Pieces.{written};
 ghost use Rattle.ship_core.specs.Shipping.{shipments, shipped};
-ghost use Rattle.ship_core.specs.WorkedShipments.{batch_of_bob, both_batches, compacted_batch, whole_one, next_two, whole_two, whole_none, wide_count, narrow_count, next_five};
+ghost use Rattle.ship_core.specs.WorkedShipments.{batch_of_bob, both_batches, compacted_batch, whole_one, next_two, whole_two, whole_none, wide_count, narrow_count};
 
 /// What is shipped of folders of the second format, worked by hand: a Whole of 103 bytes; a Next behind it, with the next sequence, or alone
 /// with the first one; nothing past the last serial; and once the folder is compacted the one Whole wherever the shipping begins.
@@ -33,15 +32,4 @@ pub fn worked_old_shipments()
     ensures len { length whole_none ≡ 88 }
     ensures from_one { shipped 1 format.One (batch_of_ann format.One ∷ []) ≡ [] }
     ensures narrowed { map (λ s. s.bytes) (shipments format.One (wide_count ∷ [])) ≡ narrow_count ∷ [] }
-{}
-
-/// Pieces, worked by hand: of no byte, of as many as one piece may have, and of one more; and the sequence past 2^32 frames.
-pub fn worked_pieces()
-    ensures of_none { piece_count [] ≡ 0 }
-    ensures of_one { piece_count (7 ∷ []) ≡ 1 }
-    ensures just_one { (bytes : List ℕ) → length bytes ≡ 1048576 → piece_count bytes ≡ 1 }
-    ensures one_more { (bytes : List ℕ) → length bytes ≡ 1048577 → piece_count bytes ≡ 2 }
-    ensures second { (bytes : List ℕ) → piece_at 1 bytes ≡ take 1048576 (drop 1048576 bytes) }
-    ensures two_frames { (bytes : List ℕ) → length bytes ≡ 1048577 → frames_of 4 (next_five bytes) ≡ piece_frame 4 (next_five bytes) 0 ∷ piece_frame 5 (next_five bytes) 1 ∷ [] }
-    ensures sequence { (bytes : List ℕ) → (piece_frame (2 ^ 32 + 3) (next_five bytes) 0).sequence ≡ 3 }
 {}

@@ -1,7 +1,7 @@
 use Rattle.std.proofs.Common.{[], ◌∷◌, subst}
 use Rattle.channel_frame.specs.declared.frames.Frame.{Frame}
 use Rattle.ship_core.specs.Faults.{fault_of}
-use Rattle.ship_core.specs.Pieces.{piece_frame}
+use Rattle.ship_frames.specs.Pieces.{piece_frame}
 use Rattle.ship_core.specs.Steps.{ShipsFrames}
 use Rattle.ship_core.proofs.SaidLaws.{wanting}
 use Rattle.ship_core.proofs.saying.say_piece.Goals as goal

@@ -1,6 +1,6 @@
 use Rattle.std.proofs.Common.{◌≡◌, ◌+◌, ◌<◌, ◌%◌, ◌^◌, ap, sym, ◌∙◌, arith, ℕ}
 use Rattle.std.proofs.lemmas.Result.{err_from_is_err_and}
-use Rattle.ship_core.specs.Pieces.{piece_count}
+use Rattle.ship_frames.specs.Pieces.{piece_count}
 use Rattle.ship_core.proofs.PieceSteps.{one_more, one_fails, next_piece}
 use Rattle.ship_core.proofs.SaidLaws.{nothing_done}
 use Rattle.ship_core.proofs.saying.say_pieces.Goals as goal

@@ -1,5 +1,5 @@
 use Rattle.std.proofs.Common.{◌≡◌, ℕ, ◌+◌, ◌%◌, ◌^◌, None}
-use Rattle.ship_core.specs.Pieces.{frames_from}
+use Rattle.ship_frames.specs.Pieces.{frames_from}
 use Rattle.ship_core.specs.Steps.{ShipsFrames}
 use Rattle.ship_core.proofs.saying.say_pieces.Given as goal
 

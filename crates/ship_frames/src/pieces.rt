@@ -1,33 +1,26 @@
 ghost use Rattle.std.specs.Prelude.{◌≡◌, ◌<◌, ◌%◌, ◌^◌, ℕ, [], ◌∷◌, IfOk};
 ghost use Rattle.std.specs.Int.{w32, w64, to_le_bytes};
 ghost use Rattle.channel_frame.specs.FrameSpelling.{KeepsLimits};
-ghost use Rattle.ship_core.specs.Pieces.{whole_type, next_type, piece_count, piece_at, piece_frame};
+ghost use Rattle.ship_frames.specs.Pieces.{type_of, piece_count, piece_at, piece_frame};
 
-use crate::shipments::Shipment;
+use crate::headers::{COUNT, NEXT, NUMBER, PIECE, SERIAL, WHOLE};
+use crate::shipments::{Shipment, Sort};
 use channel_frame::{Frame, Header, Headers};
 use ctrl_model::Bytes;
 use std::alloc::{AllocError, Global};
 
-/// The content type of the pieces of a batch that is applied to no rows.
-pub const WHOLE: u32 = 1900;
+// The content type of the pieces of batches of a sort.
+fn type_of(sort: Sort) -> u32
+    ensures { result ≡ type_of sort }
+{
+    match sort {
+        Sort::Whole => WHOLE,
+        Sort::Next => NEXT,
+    }
+}
 
-/// The content type of the pieces of a batch that is applied to the rows of the serial before its own.
-pub const NEXT: u32 = 1901;
-
-/// How many bytes a piece has, but for the last one of a batch.
-const PIECE: usize = 1_048_576;
-
-/// The key of the header of the serial.
-const SERIAL: u32 = 1000;
-
-/// The key of the header of a piece's number.
-const NUMBER: u32 = 1001;
-
-/// The key of the header of the count of pieces.
-const COUNT: u32 = 1002;
-
-// How many pieces some bytes have.
-pub(crate) fn piece_count(bytes: &[u8]) -> usize
+/// How many pieces the bytes of a batch have.
+pub fn piece_count(bytes: &[u8]) -> usize
     ensures { result ≡ piece_count bytes.now }
 {
     (bytes.len() + (PIECE - 1)) / PIECE
@@ -74,8 +67,8 @@ fn piece_headers(
     Ok(Headers::of(headers))
 }
 
-// The frame of the piece of a number, with a sequence.
-pub(crate) fn piece_frame(
+/// The frame of the piece of a number of a batch, with a sequence. An Err is want of memory.
+pub fn piece_frame(
     alloc: Global,
     shipment: &Shipment,
     number: usize,
@@ -89,7 +82,7 @@ pub(crate) fn piece_frame(
     let body = Bytes::from_slice(alloc, piece_at(bytes, number))?;
     let headers = piece_headers(alloc, shipment.serial, number, piece_count(bytes))?;
     Ok(Frame {
-        content: shipment.content,
+        content: type_of(shipment.sort),
         sequence,
         headers,
         body,

@@ -1,7 +1,7 @@
 use Rattle.std.proofs.Common.{ℕ, ◌*◌, ◌-◌, min, List, length, take, drop, ap, ◌∙◌, arith}
 use Rattle.std.proofs.lemmas.List.{take_all, take_min, length-drop}
-use Rattle.ship_core.specs.Pieces.{piece_size}
-use Rattle.ship_core.proofs.pieces.piece_at.Goals as goal
+use Rattle.ship_frames.specs.Pieces.{piece_size}
+use Rattle.ship_frames.proofs.pieces.piece_at.Goals as goal
 
 pub returns : goal.returns
 returns c =

@@ -5,7 +5,9 @@ use Rattle.std.specs.List.{flat_map}
 use Rattle.channel_frame.specs.declared.frames.Frame.{Frame}
 use Rattle.channel_frame.specs.declared.frames.Header.{Header}
 use Rattle.channel_frame.specs.FrameSpelling.{spelling}
-use Rattle.ship_core.specs.declared.shipments.Shipment.{Shipment}
+use Rattle.ship_frames.specs.declared.shipments.Shipment.{Shipment}
+use Rattle.ship_frames.specs.declared.shipments.Sort.{Sort}
+use Rattle.ship_frames.specs.declared.shipments.Sort.TheVariants.{Whole, Next}
 
 -- The content type of the pieces of a Whole, a batch that is applied to no rows.
 abbrev pub whole_type : ℕ
@@ -14,6 +16,11 @@ whole_type = 1900
 -- The content type of the pieces of a Next, a batch that is applied to the rows of the serial before its own.
 abbrev pub next_type : ℕ
 next_type = 1901
+
+-- The content type of the pieces of batches of a sort.
+abbrev pub type_of : Sort → ℕ
+type_of Whole = whole_type
+type_of Next = next_type
 
 -- How many bytes a piece has, but for the last one of a batch, which has what is left.
 abbrev pub piece_size : ℕ
@@ -36,7 +43,7 @@ piece_headers s number =
 -- The frame of the piece of a number at a place of the output, counted from 0: its sequence is the place, as far as four bytes go.
 abbrev pub piece_frame : (place : ℕ) → Shipment → (number : ℕ) → Frame
 piece_frame place s number =
-    record { content = s.content; sequence = place % 2 ^ 32; headers = piece_headers s number; body = piece_at number s.bytes }
+    record { content = type_of s.sort; sequence = place % 2 ^ 32; headers = piece_headers s number; body = piece_at number s.bytes }
 
 -- The frames of so many pieces of a batch, from the piece of a number on, from a place of the output on.
 abbrev pub frames_from : (place : ℕ) → Shipment → (number left : ℕ) → List Frame

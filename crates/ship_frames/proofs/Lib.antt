@@ -1,0 +1,4 @@
+pub mod PieceLaws
+pub mod FrameParts
+pub mod ReadingLaws
+pub mod GatheringLaws

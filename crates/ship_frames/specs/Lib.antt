@@ -1,0 +1,4 @@
+pub mod Pieces
+pub mod PieceReading
+pub mod GatheredPieces
+pub mod WorkedPieces
