@@ -4,7 +4,7 @@ use Rattle.row_store.specs.declared.bounds.StoreBounds.{StoreBounds}
 use Rattle.ctrl_keep.specs.KeptController.{Controlled}
 use Rattle.ctrl_serve.specs.Headline.{folder_bounds, IsUnopened}
 use Rattle.ctrl_serve.proofs.ClosedFolders.{closed_calm, closed_disk, never_spent, opens_none, unopened}
-use Rattle.ctrl_serve.proofs.ReplayLaws.{closed_counts, opened_counts, replays_within}
+use Rattle.ctrl_serve.proofs.ReplayLaws.{closed_counts, kept_runs, opened_counts, replays_within}
 use Rattle.ctrl_serve.proofs.RoomRuns.{closed_room, opened_room}
 use Rattle.ctrl_serve.proofs.top.run_replay.Goals as goal
 
@@ -13,7 +13,9 @@ returns-in-Ok-clause-replays g c =
     let e = c.in-Ok.ensures in
     inr (replays_within (record { left = g.S.Source.left; faults = g.S.Source.faults; tells = g.D.Desk.tells; seen = g.D.Desk.seen; stopped = g.D.Desk.stopped })
     c.args.form (folder_bounds c.args.bounds) c.store_bounds.result c.args.bounds.input c.in-Ok.kept c.args.source.now c.run_on-status.new.source c.args.desk.now c.open.new.desk c.run_on-status.new.desk c.run_on-status.result
-    c.store_bounds.ensures e.opens e.stands e.holds e.opened.0 e.created c.open.ensures.others e.stops c.run_on-status.ensures.runs)
+    c.store_bounds.ensures e.opens e.stands e.holds e.opened.0 e.created c.open.ensures.others e.stops
+    (kept_runs (record { left = g.S.Source.left; faults = g.S.Source.faults; tells = g.D.Desk.tells; seen = g.D.Desk.seen; stopped = g.D.Desk.stopped })
+    c.args.form c.args.bounds.input c.in-Ok.kept c.run_on-status.new.answerer.kept c.args.source.now c.run_on-status.new.source c.open.new.desk c.run_on-status.new.desk c.run_on-status.result c.run_on-status.ensures.runs))
 
 pub returns-in-Ok-clause-counts : goal.returns-in-Ok-clause-counts
 returns-in-Ok-clause-counts g c =
