@@ -1,5 +1,5 @@
 -- How the opening of the folder, the serving of the frames and the notes make up a run on the folder, with the counts of their faults.
-use Rattle.std.specs.Prelude.{⊤, false, Bool, IsTrue, Ok}
+use Rattle.std.specs.Prelude.{⊤, true, false, Bool, IsTrue, Ok}
 use Rattle.std.proofs.Common.{◌≡◌, ◌⊎◌, inl, inr, ℕ, List, length, take, refl, ◌∙◌, subst, arith}
 use Rattle.std.specs.declared.option.Option.{Option}
 use Rattle.ziti_outside.specs.Images.{Image, After}

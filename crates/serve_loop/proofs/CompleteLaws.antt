@@ -20,18 +20,18 @@ use Rattle.serve_loop.proofs.PieceLaws.{good_undecided}
 -- ---- a run that serves its input
 
 -- Where all events were answered all replies were said.
-all_said : {M : Type 0} {status : Status} {taking : Taking} {answerer : Answerer M} {m : Machine} {a b : Option (List ℕ)} {c d : Seen} (s : Serves taking answerer m a b c d status)
+all_said : {M : Type 0} {status : Status} {taking : Taking} {answerer : Answerer M} {m : M} {a b : Option (List ℕ)} {c d : Seen} (s : Serves taking answerer m a b c d status)
     → is_kept status ≡ true → SaysAll taking.form answerer m s.said s.answered → Took c.said d.said (replies taking.form answerer m (take taking.most s.taken))
 all_said {taking = taking} {answerer = answerer} {m = m} {c = c} {d = d} s kept says =
     subst (λ (l : List ℕ). Took c.said d.said l) (all_replies taking.form answerer m (take taking.most s.taken) s.said s.answered s.unanswered s.split (s.all kept) says) s.took
 
 -- So it is complete where it was not cut short either.
-complete : {M : Type 0} {status : Status} {taking : Taking} {answerer : Answerer M} {m : Machine} {a b : Option (List ℕ)} {c d : Seen} (s : Serves taking answerer m a b c d status)
+complete : {M : Type 0} {status : Status} {taking : Taking} {answerer : Answerer M} {m : M} {a b : Option (List ℕ)} {c d : Seen} (s : Serves taking answerer m a b c d status)
     → is_cut status ≡ false → is_kept status ≡ true → SaysAll taking.form answerer m s.said s.answered → IsComplete taking answerer m a b c d status
 complete s on kept says = inr (record { taken = s.taken; gave = s.gave; ends = s.ends on; said = all_said s kept says; read_on = s.read_on on })
 
 -- Where no call failed it is complete, unless memory was wanting.
-pub serves_completely : {M : Type 0} (status : Status) {taking : Taking} {answerer : Answerer M} {m : Machine} {a b : Option (List ℕ)} {c d : Seen}
+pub serves_completely : {M : Type 0} (status : Status) {taking : Taking} {answerer : Answerer M} {m : M} {a b : Option (List ℕ)} {c d : Seen}
     → Serves taking answerer m a b c d status → (status ≡ ReadFault → ⊥) → (status ≡ WriteFault → ⊥) → (status ≡ DiskFault → ⊥) → IsComplete taking answerer m a b c d status
 serves_completely Done s read write disk = complete s refl refl s.says
 serves_completely Usage s read write disk = absurd s.says
@@ -50,7 +50,7 @@ pub ends_otherwise : (IsSo : Status → Type 0) (status : Status) → IsSo statu
 ends_otherwise IsSo status so other never is = never (subst IsSo is so)
 
 -- It does not end with Usage.
-pub serves_no_usage : {M : Type 0} {status : Status} {taking : Taking} {answerer : Answerer M} {m : Machine} {a b : Option (List ℕ)} {c d : Seen} → Serves taking answerer m a b c d status → status ≡ Usage → ⊥
+pub serves_no_usage : {M : Type 0} {status : Status} {taking : Taking} {answerer : Answerer M} {m : M} {a b : Option (List ℕ)} {c d : Seen} → Serves taking answerer m a b c d status → status ≡ Usage → ⊥
 serves_no_usage {M} {status} {taking} {answerer} {m} {a} {b} {c} {d} s is = ends_otherwise (λ (u : Status). Serves taking answerer m a b c d u) status s Usage (λ t. t.says) is
 
 -- Where it is done it read its input to the end.
@@ -60,5 +60,5 @@ done_at_end taking answerer m a b c d s =
     let is = done_is (is_bad_input taking.form first) (has_rest taking.form first) (ltb taking.most (length s.taken)) (s.ends refl) in
     at_end taking.most b s.taken is.whole (s.read_on refl (good_undecided taking.form first is.good))
 
-pub serves_to_end : {M : Type 0} {status : Status} {taking : Taking} {answerer : Answerer M} {m : Machine} {a b : Option (List ℕ)} {c d : Seen} → Serves taking answerer m a b c d status → status ≡ Done → IsAtEnd b
+pub serves_to_end : {M : Type 0} {status : Status} {taking : Taking} {answerer : Answerer M} {m : M} {a b : Option (List ℕ)} {c d : Seen} → Serves taking answerer m a b c d status → status ≡ Done → IsAtEnd b
 serves_to_end {M} {status} {taking} {answerer} {m} {a} {b} {c} {d} s is = done_at_end taking answerer m a b c d (subst (λ (u : Status). Serves taking answerer m a b c d u) is s)

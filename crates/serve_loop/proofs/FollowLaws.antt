@@ -1,5 +1,5 @@
 -- How a folder follows the machine of a run, from one event to all events of an input.
-use Rattle.std.proofs.Common.{◌≡◌, ℕ, List, [], ◌∷◌, ◌++◌, refl, sym, subst, ◌∙◌}
+use Rattle.std.proofs.Common.{◌≡◌, ℕ, List, [], ◌∷◌, ◌++◌, refl, sym, subst}
 use Rattle.ziti_outside.specs.Images.{Image}
 use Rattle.channel_frame.specs.declared.frames.Frame.{Frame}
 use Rattle.session_mux.specs.declared.events.Event.{Event}

@@ -92,7 +92,7 @@ starved_faultless Fault bad st faulty rest before now comes last (inr truncated)
 -- ---- what answering the used bytes said and noted
 
 -- Such a status is no fault of the desk.
-pub all_no_fault : {M : Type 0} {form : Form} {answerer : Answerer M} {m : Machine} {used : List ℕ} {end : End} {status : Status} {old now : Telling}
+pub all_no_fault : {M : Type 0} {form : Form} {answerer : Answerer M} {m : M} {used : List ℕ} {end : End} {status : Status} {old now : Telling}
     → AnswersAll form answerer m used end status old now → (status ≡ WriteFault → ⊥) × (status ≡ DiskFault → ⊥)
 all_no_fault {M} {form} {used = used} {end = end} told =
     (λ w. no_write_fault (is_bad_input form used) (has_rest form used) end (sym told.ends ∙ w), λ w. no_disk_fault (is_bad_input form used) (has_rest form used) end (sym told.ends ∙ w))
@@ -194,7 +194,7 @@ noted_since old now lines calm more =
     noted_lines now.failed lines old.desk now.desk (subst (λ (f : Bool). NotesMore f now.failed lines old.desk now.desk) calm more [] old.desk (noted_none old.desk))
 
 -- A run that answered all events of the used bytes serves its input.
-abbrev pub input_serves : {M : Type 0} {i : Intake M} {o : Passage} {m : Machine} {now : Telling} (status : Status) → EndsInput status i o m now → o.told.failed ≡ false
+abbrev pub input_serves : {M : Type 0} {i : Intake M} {o : Passage} {m : M} {now : Telling} (status : Status) → EndsInput status i o m now → o.told.failed ≡ false
     → Serves (taking_of i.form i.most) i.answerer i.machine o.left o.left_now o.told.desk now.desk status
 input_serves {M} {i} {o} {m} {now} status told calm =
     let form : Form = i.form in
@@ -223,14 +223,14 @@ input_serves {M} {i} {o} {m} {now} status told calm =
     }
 
 -- A failed note was the only one.
-pub input_counted : {M : Type 0} {i : Intake M} {o : Passage} {m : Machine} {now : Telling} (status : Status) → EndsInput status i o m now → o.told.failed ≡ false
+pub input_counted : {M : Type 0} {i : Intake M} {o : Passage} {m : M} {now : Telling} (status : Status) → EndsInput status i o m now → o.told.failed ≡ false
     → RisesOnce o.told.desk.note_faults now.desk.note_faults
 input_counted {M} {i} {o} {m} {now} status told calm =
     let first : List ℕ = take i.most told.takes.taken in
     (noted_since o.told now (notes_of i.form (events_in i.form first) first status) calm told.all.noted_is).1
 
 -- What was noted where it was cut short, and that was told.
-pub some_noted : {M : Type 0} (by : Cut) {form : Form} {answerer : Answerer M} {m : Machine} {used : List ℕ} {old : Telling} {machine : Machine} {mid : Telling} (now : Telling)
+pub some_noted : {M : Type 0} (by : Cut) {form : Form} {answerer : Answerer M} {m : M} {used : List ℕ} {old : Telling} {machine : M} {mid : Telling} (now : Telling)
     → (told : AnswersSome by form answerer m used old machine mid) → old.failed ≡ false → NotesMore mid.failed now.failed (status_lines [] (status_of_cut by)) mid.desk now.desk
     → NotesLines (fault_lines told.answered ++ status_lines [] (status_of_cut by)) old.desk now.desk × RisesOnce old.desk.note_faults now.desk.note_faults
 some_noted by {old = old} {mid = mid} now told calm more =
@@ -239,7 +239,7 @@ some_noted by {old = old} {mid = mid} now told calm more =
     (more_then old.failed mid.failed now.failed (fault_lines told.answered) lines old.desk mid.desk now.desk told.noted_is more)
 
 -- So does one that was cut short.
-abbrev pub cut_serves : {M : Type 0} (by : Cut) {i : Intake M} {o : Passage} {machine : Machine} {mid : Telling} (now : Telling) → CutsInput by i o machine mid → o.told.failed ≡ false → now.desk.said ≡ mid.desk.said
+abbrev pub cut_serves : {M : Type 0} (by : Cut) {i : Intake M} {o : Passage} {machine : M} {mid : Telling} (now : Telling) → CutsInput by i o machine mid → o.told.failed ≡ false → now.desk.said ≡ mid.desk.said
     → NotesMore mid.failed now.failed (status_lines [] (status_of_cut by)) mid.desk now.desk
     → Serves (taking_of i.form i.most) i.answerer i.machine o.left o.left_now o.told.desk now.desk (status_of_cut by)
 cut_serves by {i} {o} {machine} {mid} now told calm still more =
@@ -261,7 +261,7 @@ cut_serves by {i} {o} {machine} {mid} now told calm still more =
       notes = subst (λ (lines : List ℕ). NotesLines lines o.told.desk now.desk) (cut_notes by i.form told.some.answered first) (some_noted by now told.some calm more).0;
     }
 
-pub cut_counted : {M : Type 0} (by : Cut) {i : Intake M} {o : Passage} {machine : Machine} {mid : Telling} (now : Telling) → CutsInput by i o machine mid → o.told.failed ≡ false → NotesMore mid.failed now.failed (status_lines [] (status_of_cut by)) mid.desk now.desk
+pub cut_counted : {M : Type 0} (by : Cut) {i : Intake M} {o : Passage} {machine : M} {mid : Telling} (now : Telling) → CutsInput by i o machine mid → o.told.failed ≡ false → NotesMore mid.failed now.failed (status_lines [] (status_of_cut by)) mid.desk now.desk
     → RisesOnce o.told.desk.note_faults now.desk.note_faults
 cut_counted by now told calm more = (some_noted by now told.some calm more).1
 

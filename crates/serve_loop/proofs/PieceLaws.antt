@@ -115,7 +115,7 @@ answers_then {M} {form} {answerer} {here} {p} {q} {r} within first later =
     }
 
 -- Where the later ones were cut short.
-abbrev pub cut_behind : {M : Type 0} {cut : Cut} {form : Form} {answerer : Answerer M} {p q : Progress M} {m : Machine} {now : Telling} → Answers form answerer p q → IsCutShort cut form answerer q m now → IsCutShort cut form answerer p m now
+abbrev pub cut_behind : {M : Type 0} {cut : Cut} {form : Form} {answerer : Answerer M} {p q : Progress M} {m : M} {now : Telling} → Answers form answerer p q → IsCutShort cut form answerer q m now → IsCutShort cut form answerer p m now
 cut_behind first cuts = record { mid = cuts.mid; first = answers_then refl first cuts.first; cuts = cuts.cuts; unnoted = cuts.unnoted }
 
 -- ---- what a stop finds
@@ -412,7 +412,7 @@ takes_on fed within stops = record {
 }
 
 -- The answering of its events was cut short.
-pub fed_cut : {M : Type 0} {by : Cut} {i : Intake M} {o : Passage} {p : Progress M} {size : ℕ} {here : Answerer M} {later : Stopped} {machine : Machine} {now : Telling} → FedPieces i o p size → here ≡ i.answerer
+pub fed_cut : {M : Type 0} {by : Cut} {i : Intake M} {o : Passage} {p : Progress M} {size : ℕ} {here : Answerer M} {later : Stopped} {machine : M} {now : Telling} → FedPieces i o p size → here ≡ i.answerer
     → IsCutShort by i.form here p machine now → (IsTrue i.folder → IsTrue i.tells → Elapses o.stopped_now later (StopsAlong i.form here p.known p.machine p.standing p.told.desk.said))
     → CutsInput by i (passed_to o later) machine now
 fed_cut {M} {by} {i} {o} {p} {size} {here} {later} {machine} {now} fed within short stops =

@@ -116,7 +116,7 @@ runs_calm {i = i} {left = left} {left_now = left_now} {desk = desk} {stopped = s
     subst (λ (f : Bool). RunsOn i (passage_of left left_now f desk stopped stopped_now) machine go_on now status) calm runs
 
 -- The notes of such a run failed once at most.
-pub cut_run_counted : {M : Type 0} (by : Cut) {i : Intake M} {o : Passage} {machine : Machine} {mid : Telling} (now : Telling) (status : Status) → status ≡ status_of_cut by → CutsInput by i o machine mid → o.told.failed ≡ false
+pub cut_run_counted : {M : Type 0} (by : Cut) {i : Intake M} {o : Passage} {machine : M} {mid : Telling} (now : Telling) (status : Status) → status ≡ status_of_cut by → CutsInput by i o machine mid → o.told.failed ≡ false
     → NotesMore mid.failed now.failed (status_lines [] status) mid.desk now.desk → RisesOnce o.told.desk.note_faults now.desk.note_faults
 cut_run_counted by {mid = mid} now status is cuts calm more =
     cut_counted by now cuts calm (subst (λ (u : Status). NotesMore mid.failed now.failed (status_lines [] u) mid.desk now.desk) is more)

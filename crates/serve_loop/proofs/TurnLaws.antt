@@ -227,7 +227,7 @@ next_cut Disk form answerer e q later m c goes cuts next =
 next_cut Unsaid form answerer e q later m c goes cuts next =
     (cuts.0, cuts.1, later, subst (λ (x : Event). GoesTo q.standing later (x ∷ [])) cuts.2 goes, cuts.3, next refl ∙ ap (λ (x : Event). machine_after answerer x q.known q.machine) cuts.2)
 
-pub cut_answers : {M : Type 0} {cut : Cut} {form : Form} {answerer here : Answerer M} {e : Event} {p q : Progress M} {later : Standing} {m : Machine} {now : Telling}
+pub cut_answers : {M : Type 0} {cut : Cut} {form : Form} {answerer here : Answerer M} {e : Event} {p q : Progress M} {later : Standing} {m : M} {now : Telling}
     → here ≡ answerer → Answers form answerer p q → GoesTo q.standing later (e ∷ []) → CutsEvent cut form here e q.known q.machine q.told.desk.said now.desk.said
     → (cut ≡ Unsaid → m ≡ machine_after here e q.known q.machine) → NotesNothing q.told now
     → IsCutShort cut form answerer p m now

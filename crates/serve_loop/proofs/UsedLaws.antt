@@ -208,7 +208,7 @@ says_so Unsaid form answerer m used {old} {q} now {c} told cuts =
     }
 
 -- Where it was not taken whole, the machine is one frame ahead.
-pub one_ahead : {M : Type 0} (cut : Cut) (form : Form) (answerer : Answerer M) (m : M) (used : List ℕ) {old : Telling} {q : Progress M} {now : Machine} (c : Option (List ℕ))
+pub one_ahead : {M : Type 0} (cut : Cut) (form : Form) (answerer : Answerer M) (m : M) (used : List ℕ) {old : Telling} {q : Progress M} {now : M} (c : Option (List ℕ))
     → (told : Answers form answerer (begun form m used old) q) → CutsNext cut form answerer q now c → cut ≡ Unsaid → IsOneAhead form answerer m told.answered (events_of q.standing) now
 one_ahead NoMemory form answerer m used c told cuts is = absurd cc
 one_ahead Disk form answerer m used c told cuts is = absurd cc
@@ -231,7 +231,7 @@ noted_behind old {mid} {now} lines none more =
     subst (λ (g : Bool). NotesMore old.failed g lines old.desk now.desk) (sym none.failed) (more_still old.failed mid.failed lines old.desk mid.desk now.desk none.notes none.failed_notes more)
 
 -- The next event was cut short.
-abbrev pub used_cut : {M : Type 0} (cut : Cut) (form : Form) (answerer : Answerer M) (m : M) (used : List ℕ) {old now : Telling} {machine : Machine}
+abbrev pub used_cut : {M : Type 0} (cut : Cut) (form : Form) (answerer : Answerer M) (m : M) (used : List ℕ) {old now : Telling} {machine : M}
     → IsCutShort cut form answerer (begun form m used old) machine now → AnswersSome cut form answerer m used old machine now
 used_cut cut form answerer m used {old} {now} {machine} told =
     let es : List Event = told.first.answered in
