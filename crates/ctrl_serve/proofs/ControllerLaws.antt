@@ -25,8 +25,8 @@ able spent fresh = ap not fresh
 -- A kept controller that is ready reads as its store stands, and the other way round.
 pub ready_reads : (k : Controlled) (tells : Bool) (reads : Image) (images : Image → Type 0) → IsReady (kept_needs k) tells reads images → IsTrue tells → ReadsAs k.stored reads images
 ready_reads k tells reads images ready told = record {
-  some = (ready.reads told).0;
-  kept = (ready.reads told).1;
+  some = (ready.stands told).0;
+  kept = (ready.stands told).1;
   stable_mark = record { each = λ image left. (ready.leaves told image left).0 };
   stable_slot = record { each = λ image left. (ready.leaves told image left).1 };
 }
@@ -34,7 +34,7 @@ ready_reads k tells reads images ready told = record {
 pub reads_ready : (k : Controlled) (tells : Bool) (reads : Image) (images : Image → Type 0) → HoldsRows k → (IsTrue tells → ReadsAs k.stored reads images) → IsReady (kept_needs k) tells reads images
 reads_ready k tells reads images holds stands = record {
   holds = holds;
-  reads = λ told. ((stands told).some, (stands told).kept);
+  stands = λ told. ((stands told).some, (stands told).kept);
   leaves = λ told image left. ((stands told).stable_mark.each image left, (stands told).stable_slot.each image left);
 }
 

@@ -19,7 +19,7 @@ GoesOn-then first second = record { able = second.able; bounds = second.bounds �
 pub ready_behind : (needs : Needs) (tells : Bool) (reads now : Image) (images later : Image → Type 0) → now ≡ reads → ((image : Image) → later image → images image)
     → IsReady needs tells reads images → IsReady needs tells now later
 ready_behind needs tells reads now images later same fewer ready =
-    subst (λ (r : Image). IsReady needs tells r later) (sym same) (record { holds = ready.holds; reads = ready.reads; leaves = λ told image left. ready.leaves told image (fewer image left) })
+    subst (λ (r : Image). IsReady needs tells r later) (sym same) (record { holds = ready.holds; stands = ready.stands; leaves = λ told image left. ready.leaves told image (fewer image left) })
 
 -- Where nothing was done on the desk room is held.
 pub room_calm : {D : Type 0} {tells : Bool} {seen : D → Seen} {stopped : D → Stopped} (most : ℕ) (desk : D) → HoldsRoom tells most seen stopped desk desk

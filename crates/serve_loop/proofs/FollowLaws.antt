@@ -26,16 +26,15 @@ then_along answerer (e ∷ es) later k m before mid now first second =
     (first.0, first.1, then_along answerer es later (known_after e k) (machine_after answerer e k m) first.0 mid now first.2 second)
 
 -- By what is known and the machine behind the first ones.
-pub follows_then : {M : Type 0} {answerer here : Answerer M} {es later : List Event} {k k1 : Known} {m m1 : M} {before mid now : Image} → here ≡ answerer → k1 ≡ known_along es k → m1 ≡ machine_along answerer es k m
-    → FollowsEvents answerer es k m before mid → FollowsEvents here later k1 m1 mid now → FollowsEvents answerer (es ++ later) k m before now
-follows_then {M} {answerer} {here} {es} {later} {k} {k1} {m} {m1} {before} {mid} {now} within known same first second =
+pub follows_then : {M : Type 0} {answerer here : Answerer M} (es later : List Event) (k : Known) {k1 : Known} (m : M) {m1 : M} (before mid now : Image) → here ≡ answerer → k1 ≡ known_along es k
+    → m1 ≡ machine_along answerer es k m → FollowsEvents answerer es k m before mid → FollowsEvents here later k1 m1 mid now → FollowsEvents answerer (es ++ later) k m before now
+follows_then {M} {answerer} {here} es later k {k1} m {m1} before mid now within known same first second =
     then_along answerer es later k m before mid now first
     (subst (λ (y : M). FollowsEvents answerer later (known_along es k) y mid now) same
     (subst (λ (y : Known). FollowsEvents answerer later y m1 mid now) known
     (subst (λ (y : Answerer M). FollowsEvents y later k1 m1 mid now) within second)))
 
 -- One event more.
-pub follows_more : {M : Type 0} {answerer here : Answerer M} {es : List Event} (e : Event) {k k1 : Known} {m m1 : M} {before mid now : Image} → here ≡ answerer → k1 ≡ known_along es k → m1 ≡ machine_along answerer es k m
-    → FollowsEvents answerer es k m before mid → FollowsEvent here e k1 m1 mid now → FollowsEvents answerer (es ++ e ∷ []) k m before now
-follows_more {M} {answerer} {here} {es} e {k} {k1} {m} {m1} {before} {mid} {now} within known same first one =
-    follows_then within known same first (now, one, refl)
+pub follows_more : {M : Type 0} {answerer here : Answerer M} (es : List Event) (e : Event) (k : Known) {k1 : Known} (m : M) {m1 : M} (before mid now : Image) → here ≡ answerer → k1 ≡ known_along es k
+    → m1 ≡ machine_along answerer es k m → FollowsEvents answerer es k m before mid → FollowsEvent here e k1 m1 mid now → FollowsEvents answerer (es ++ e ∷ []) k m before now
+follows_more es e k m before mid now within known same first one = follows_then es (e ∷ []) k m before mid now within known same first (now, one, refl)

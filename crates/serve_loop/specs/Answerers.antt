@@ -41,7 +41,7 @@ pub record Needs : Type 1 where
 -- It has what it needs; of the folder where that is told.
 pub record IsReady (needs : Needs) (tells : Bool) (reads : Image) (images : Image → Type 0) : Type 0 where
   pub holds : needs.holds
-  pub reads : IsTrue tells → needs.reads reads
+  pub stands : IsTrue tells → needs.reads reads
   pub leaves : IsTrue tells → (image : Image) → images image → needs.leaves reads image
 
 -- So it has on a desk.

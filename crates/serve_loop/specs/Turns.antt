@@ -120,7 +120,7 @@ CutsNext Unsaid form answerer mid machine_now said_now =
 
 -- The events were answered so far, and the next one was cut short, with nothing noted of it.
 pub record IsCutShort {M : Type 0} (cut : Cut) (form : Form) (answerer : Answerer M) (old : Progress M) (machine_now : M) (now : Telling) : Type 0 where
-  pub mid : Progress
+  pub mid : Progress M
   pub first : Answers form answerer old mid
   pub cuts : CutsNext cut form answerer mid machine_now now.desk.said
   pub unnoted : NotesNothing mid.told now

@@ -4,6 +4,7 @@ use Rattle.std.proofs.lemmas.List.{length-take, length-take-le}
 use Rattle.ziti_outside.specs.Told.{Gave}
 use Rattle.ziti_outside.proofs.Moves.{Gave-then, Gave-kept}
 use Rattle.run_notes.specs.Endings.{IsAllGiven}
+use Rattle.run_notes.specs.KnownSessions.{known_in}
 use Rattle.serve_loop.specs.Answering.{progress_at}
 use Rattle.serve_loop.specs.Pieces.{intake_of}
 use Rattle.serve_loop.proofs.DeskLaws.{GoesOn-then, OnlySaysAndNotes-none, OnlySaysAndNotes-then, room_calm, room_more}
@@ -48,7 +49,8 @@ pieces-preserved g c =
       ready = e.ready;
       answers = now;
       follows = λ some told.
-          follows_then (ap g.A.AnswersFrames.answers held.on.bounds) held.answers.answers.known_is held.answers.answers.machine_is (held.follows some told) (e.ok.1 (held.on.kind ∙ some) told);
+          follows_then held.answers.answers.answered e.ok.0.answered (known_in c.args.form) (g.A.AnswersFrames.serving c.args.answerer.now).machine (g.D.Desk.seen c.args.desk.now).reads (g.D.Desk.seen c.pieces.desk).reads
+          (g.D.Desk.seen c.serve_events.new.desk).reads (ap g.A.AnswersFrames.answers held.on.bounds) held.answers.answers.known_is held.answers.answers.machine_is (held.follows some told) (e.ok.1 (held.on.kind ∙ some) told);
       given = more_given c.in_ok-bad-in-Ok.bad now e.end (sym c.is_decided.ensures ∙ c.if-is_decided.false);
       few = omega (arith, c.pieces-test.true, few, long);
       calm = c.in-Ok.ensures.cause.calm ∙ held.calm;
@@ -145,7 +147,8 @@ returns-then-is_decided-clause-ok g c =
     let came = pieces_fed (take c.in-Ok.count c.take.new.buf) held.answers held.given.none within c.in-Ok.ensures.bytes.bytes few c.first_bytes.ensures c.in_ok-feed-in-Ok.ensures.ok in (
       fed_decided c.in_ok-bad-in-Ok.bad came (ap g.A.AnswersFrames.answers held.on.bounds) e.ok.0 (λ some told. c.serve_events.ensures.stops (held.on.kind ∙ some) told) e.end (sym c.is_decided.ensures ∙ c.if-is_decided.true),
       λ some told.
-          follows_then (ap g.A.AnswersFrames.answers held.on.bounds) held.answers.answers.known_is held.answers.answers.machine_is (held.follows some told) (e.ok.1 (held.on.kind ∙ some) told),
+          follows_then held.answers.answers.answered e.ok.0.answered (known_in c.args.form) (g.A.AnswersFrames.serving c.args.answerer.now).machine (g.D.Desk.seen c.args.desk.now).reads (g.D.Desk.seen c.pieces.desk).reads
+          (g.D.Desk.seen c.serve_events.new.desk).reads (ap g.A.AnswersFrames.answers held.on.bounds) held.answers.answers.known_is held.answers.answers.machine_is (held.follows some told) (e.ok.1 (held.on.kind ∙ some) told),
     )
 
 pub returns-then-is_decided-clause-until_failure : goal.returns-then-is_decided-clause-until_failure

@@ -46,7 +46,7 @@ events-preserved g c =
       ready = turn.ready;
       answers = answers_more (ap g.A.AnswersFrames.answers held.on.bounds) held.answers goes turn.ok turn.noted;
       follows = λ some told.
-          follows_more c.in-Ok-Some.event (ap g.A.AnswersFrames.answers held.on.bounds) held.answers.known_is held.answers.machine_is (held.follows some told) (turn.follows (held.on.kind ∙ some) told);
+          follows_more held.answers.answered c.in-Ok-Some.event c.args.sessions.now first.machine (g.D.Desk.seen c.args.desk.now).reads (g.D.Desk.seen c.events.desk).reads (g.D.Desk.seen c.serve_event.new.desk).reads (ap g.A.AnswersFrames.answers held.on.bounds) held.answers.known_is held.answers.machine_is (held.follows some told) (turn.follows (held.on.kind ∙ some) told);
       calm = turn.say_cause.calm ∙ held.calm;
       calm_disk = turn.disk_cause.calm ∙ held.calm_disk;
       alone = λ none. OnlySaysAndNotes-then (held.alone none) (c.serve_event.ensures.alone (held.on.kind ∙ none));
