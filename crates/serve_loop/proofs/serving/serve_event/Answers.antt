@@ -14,13 +14,17 @@ pub returns-in-Opened-clause-alone : goal.returns-in-Opened-clause-alone
 returns-in-Opened-clause-alone g c = λ none. OnlySaysAndNotes-none c.args.desk.now
 
 pub returns-in-Opened-clause-follows : goal.returns-in-Opened-clause-follows
-returns-in-Opened-clause-follows g c = λ some told. refl
+returns-in-Opened-clause-follows g c = λ some told.
+    let old = g.A.AnswersFrames.serving c.args.answerer.now in
+    subst (λ (e : Event). FollowsEvent (g.A.AnswersFrames.answers old.bounds) e c.args.sessions.now old.machine (g.D.Desk.seen c.args.desk.now).reads (g.D.Desk.seen c.args.desk.now).reads) (sym c.in-Opened.is) refl
 
 pub returns-in-Closed-clause-alone : goal.returns-in-Closed-clause-alone
 returns-in-Closed-clause-alone g c = λ none. OnlySaysAndNotes-none c.args.desk.now
 
 pub returns-in-Closed-clause-follows : goal.returns-in-Closed-clause-follows
-returns-in-Closed-clause-follows g c = λ some told. refl
+returns-in-Closed-clause-follows g c = λ some told.
+    let old = g.A.AnswersFrames.serving c.args.answerer.now in
+    subst (λ (e : Event). FollowsEvent (g.A.AnswersFrames.answers old.bounds) e c.args.sessions.now old.machine (g.D.Desk.seen c.args.desk.now).reads (g.D.Desk.seen c.args.desk.now).reads) (sym c.in-Closed.is) refl
 
 pub returns-in_err-note_fault-in-Ended-clause-alone : goal.returns-in_err-note_fault-in-Ended-clause-alone
 returns-in_err-note_fault-in-Ended-clause-alone g c = λ none. notes_alone c.note_fault.ensures.others c.note_fault.ensures.stops
@@ -29,7 +33,9 @@ pub returns-in_ok-note_fault-in-Ended-clause-alone : goal.returns-in_ok-note_fau
 returns-in_ok-note_fault-in-Ended-clause-alone g c = λ none. notes_alone c.note_fault.ensures.others c.note_fault.ensures.stops
 
 pub returns-in_ok-note_fault-in-Ended-clause-follows : goal.returns-in_ok-note_fault-in-Ended-clause-follows
-returns-in_ok-note_fault-in-Ended-clause-follows g c = λ some told. c.note_fault.ensures.others.parts
+returns-in_ok-note_fault-in-Ended-clause-follows g c = λ some told.
+    let old = g.A.AnswersFrames.serving c.args.answerer.now in
+    subst (λ (e : Event). FollowsEvent (g.A.AnswersFrames.answers old.bounds) e c.args.sessions.now old.machine (g.D.Desk.seen c.args.desk.now).reads (g.D.Desk.seen c.note_fault.new.desk).reads) (sym c.in-Ended.is) c.note_fault.ensures.others.parts
 
 pub returns-in-Arrived-clause-alone : goal.returns-in-Arrived-clause-alone
 returns-in-Arrived-clause-alone g c = c.serve_arrived.ensures.alone
