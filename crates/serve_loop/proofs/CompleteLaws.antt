@@ -1,6 +1,6 @@
 -- What a run over an input comes to where no call failed.
-use Rattle.std.specs.Prelude.{true, false, Bool}
-use Rattle.std.proofs.Common.{◌≡◌, ℕ, ◌⊎◌, inl, inr, List, length, take, refl, subst}
+use Rattle.std.specs.Prelude.{true, false}
+use Rattle.std.proofs.Common.{◌≡◌, ℕ, inl, inr, List, length, take, refl, subst}
 use Rattle.std.proofs.Math.Dec.{ltb}
 use Rattle.std.specs.declared.option.Option.{Option}
 use Rattle.std.specs.Io.KnownBytes.{IsAtEnd}

@@ -1,14 +1,13 @@
 -- How what was taken, answered and noted makes up a run, with the counts of its faults.
 use Rattle.std.specs.Prelude.{true, false, Bool, IsTrue}
-use Rattle.std.proofs.Common.{◌≡◌, ℕ, List, [], take, refl, sym, ap, ◌∙◌, subst}
+use Rattle.std.proofs.Common.{◌≡◌, ℕ, List, [], take, refl, sym, subst}
 use Rattle.std.specs.declared.option.Option.{Option}
 use Rattle.ziti_outside.specs.Views.{Seen, Stopped}
-use Rattle.ziti_outside.specs.Images.{Image}
 use Rattle.ziti_outside.specs.Moments.{Elapses}
 use Rattle.run_notes.specs.declared.ends.Cut.{Cut}
 use Rattle.run_notes.specs.declared.ends.Cut.TheVariants as cut
 use Rattle.run_notes.specs.declared.status.Status.{Status}
-use Rattle.run_notes.specs.declared.status.Status.TheVariants.{ReadFault, WriteFault, DiskFault}
+use Rattle.run_notes.specs.declared.status.Status.TheVariants.{WriteFault, DiskFault}
 use Rattle.run_notes.specs.Inputs.{events_in}
 use Rattle.run_notes.specs.Endings.{is_kept, status_of_cut}
 use Rattle.run_notes.specs.KnownSessions.{known_in}

@@ -1,5 +1,5 @@
 -- What a stop within a run over an input finds: how the turns of the loop make it up.
-use Rattle.std.proofs.Common.{◌≡◌, ◌⊎◌, inl, inr, ℕ, List, [], ◌∷◌, ◌++◌, Some, refl, sym, ap, ◌∙◌, subst}
+use Rattle.std.proofs.Common.{◌≡◌, ◌⊎◌, inl, inr, ℕ, List, [], ◌∷◌, ◌++◌, Some, refl, sym, ◌∙◌, subst}
 use Rattle.std.specs.declared.option.Option.{Option}
 use Rattle.ziti_outside.specs.Images.{Image}
 use Rattle.ziti_outside.specs.Moments.{Elapses}
