@@ -1,6 +1,6 @@
 -- How what the parts of a run promise makes up what the run promises.
 use Rattle.std.specs.Prelude.{true, false, Bool}
-use Rattle.std.proofs.Common.{◌≡◌, ℕ, ◌⊎◌, inl, inr, List, [], ◌∷◌, codes, length, take, None, Some, refl, sym, ap, ◌∙◌, subst, arith}
+use Rattle.std.proofs.Common.{◌≡◌, ℕ, ◌⊎◌, inl, inr, List, [], ◌∷◌, codes, None, Some, refl, sym, ap, ◌∙◌, subst, arith}
 use Rattle.std.proofs.lemmas.Bool.{false≢true}
 use Rattle.std.specs.declared.option.Option.{Option}
 use Rattle.std.specs.Io.KnownBytes.{IsAtEnd}
@@ -24,7 +24,7 @@ use Rattle.run_notes.specs.declared.status.Status.TheVariants.{Done, Usage, BadI
 use Rattle.ctrl_serve.specs.CommandLine.{reads_input}
 use Rattle.run_notes.specs.NotedLines.{FindsNoMore, RisesOnce, NotesLines}
 use Rattle.ctrl_serve.specs.FrameAnswer.{no_bounds, alone}
-use Rattle.ctrl_serve.specs.Headline.{OnlySaysAndNotes, folder_bounds, taking_of, Serves, Taking, IsComplete, IsLeftAlone, IsUnopened, StaysClosed, Refuses, Replays, Runs}
+use Rattle.ctrl_serve.specs.Headline.{OnlySaysAndNotes, folder_bounds, taking_of, Serves, Taking, IsLeftAlone, IsUnopened, StaysClosed, Refuses, Replays, Runs}
 use Rattle.ctrl_serve.specs.FolderWords.{Advises, Audits, Compacts, EndsCompaction, Looks}
 use Rattle.ctrl_serve.specs.ShipWords.{SaysShipped, Ships}
 use Rattle.ctrl_serve.specs.Loads.{counts_line, state_of_load, SaysOneLine, IsSaid}

@@ -1,5 +1,5 @@
 -- What a stop within a run on the folder finds: how the opening of the folder, and the run behind it, make it up.
-use Rattle.std.proofs.Common.{◌≡◌, ◌⊎◌, inl, inr, ℕ, List, [], refl, subst}
+use Rattle.std.proofs.Common.{◌⊎◌, inl, inr, ℕ, List, [], refl, subst}
 use Rattle.std.specs.declared.option.Option.{Option}
 use Rattle.ziti_outside.specs.Told.{AreTaken}
 use Rattle.ziti_outside.specs.Images.{Image, After}

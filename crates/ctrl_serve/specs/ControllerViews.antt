@@ -1,6 +1,6 @@
 -- What contracts see of the controller as what answers a run: of the core alone, and of one whose state a folder keeps. Only private contracts
 -- cite these.
-use Rattle.std.specs.Prelude.{◌≡◌, ℕ, ◌<◌, ⊤, true, false, not}
+use Rattle.std.specs.Prelude.{◌≡◌, ◌<◌, ⊤, true, false, not}
 use Rattle.ziti_outside.specs.declared.desk.Part.TheVariants.{Mark}
 use Rattle.row_store.specs.declared.bounds.StoreBounds.{StoreBounds}
 use Rattle.row_store.specs.StoredRows.{IsStoreOf}

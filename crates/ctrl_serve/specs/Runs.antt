@@ -1,5 +1,5 @@
 -- What the parts of a run do, up to the headline. Only private contracts cite these.
-use Rattle.std.specs.Prelude.{◌≡◌, ℕ, true, IsTrue, List, take}
+use Rattle.std.specs.Prelude.{◌≡◌, true, IsTrue, take}
 use Rattle.ziti_outside.specs.Moments.{Elapses}
 use Rattle.ziti_outside.specs.Views.{Outside}
 use Rattle.run_notes.specs.declared.status.Status.{Status}
