@@ -133,9 +133,9 @@ started_serves core most l m d e status is s =
 -- ---- the run on the folder
 
 -- What was said and noted since a desk that had said and noted the same.
-abbrev serves_from : {taking : Taking} {bounds : StoreBounds} {m : Machine} {l r : Option (List ℕ)} {mid now : Seen} {status : Status} (desk : Seen)
+abbrev serves_from : {taking : Taking} (bounds : StoreBounds) {m : Machine} {l r : Option (List ℕ)} {mid now : Seen} {status : Status} (desk : Seen)
     → mid.said ≡ desk.said → mid.noted ≡ desk.noted → mid.note_faults ≡ desk.note_faults → Serves taking bounds m l r mid now status → Serves taking bounds m l r desk now status
-serves_from {mid = mid} {now = now} desk replies noted failed s = record {
+serves_from bounds {mid = mid} {now = now} desk replies noted failed s = record {
   taken = s.taken;
   gave = s.gave;
   few = s.few;
@@ -181,7 +181,7 @@ replays_on o form bounds most k source source_now desk mid now status opens stan
       placed = refl;
       opens = λ told. opens_by bounds (length (before Mark)) before middle (o.stopped mid).images k refl (opens told) holds (stands told) (made told);
       migrates = roomy;
-      serves = serves_from (o.seen desk) calls.replies calls.notes calls.failed_notes runs.serves;
+      serves = serves_from k.stored.bounds (o.seen desk) calls.replies calls.notes calls.failed_notes runs.serves;
       keeps = runs.keeps;
       found = runs.found;
       stands = λ kept told batches. opened_stands_for form k.stored.bounds bounds (machine_of k) before middle after used batches (keeps told) (made told) (runs.follows kept told);

@@ -4,6 +4,7 @@ use Rattle.row_store.specs.declared.bounds.StoreBounds.{StoreBounds}
 use Rattle.ctrl_keep.specs.KeptController.{Controlled}
 use Rattle.ctrl_serve.specs.Headline.{folder_bounds, IsUnopened}
 use Rattle.ctrl_serve.proofs.ClosedFolders.{closed_calm, closed_disk, never_spent, opens_none, unopened}
+use Rattle.ctrl_serve.proofs.ControllerLaws.{reads_ready}
 use Rattle.ctrl_serve.proofs.ReplayLaws.{closed_counts, kept_runs, opened_counts, replays_within}
 use Rattle.ctrl_serve.proofs.RoomRuns.{closed_room, opened_room}
 use Rattle.ctrl_serve.proofs.top.run_replay.Goals as goal
@@ -48,3 +49,6 @@ returns-in-Ok-clause-room g c =
 
 pub returns-in-Err-clause-room : goal.returns-in-Err-clause-room
 returns-in-Err-clause-room g c = closed_room (folder_bounds c.args.bounds) (omega (arith, c.requires.slot_low)) (subst (λ (b : StoreBounds). HoldsRoom g.D.Desk.tells (max empty_size b.slot) g.D.Desk.seen g.D.Desk.stopped c.args.desk.now c.open.new.desk) c.store_bounds.ensures c.open.ensures.room) c.tell_closed.ensures.others.parts c.tell_closed.ensures.others.found
+
+pub run_on-status-requires-clause-ready : goal.run_on-status-requires-clause-ready
+run_on-status-requires-clause-ready g c = reads_ready c.in-Ok.kept g.D.Desk.tells _ _ c.in-Ok.ensures.holds c.in-Ok.ensures.stands

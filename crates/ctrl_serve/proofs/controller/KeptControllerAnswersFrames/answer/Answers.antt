@@ -8,14 +8,14 @@ use Rattle.ctrl_serve.proofs.ControllerLaws.{able, reads_ready, ready_reads, uns
 use Rattle.ctrl_serve.proofs.StopLaws.{kept_opens}
 use Rattle.ctrl_serve.proofs.controller.KeptControllerAnswersFrames.answer.Goals as goal
 
-pub answer_kept-answered-requires-able : goal.answer_kept-answered-requires-able
-answer_kept-answered-requires-able g c = unspent c.args.self.now.kept.spent c.requires.able
+pub answer_kept-requires-clause-able : goal.answer_kept-requires-clause-able
+answer_kept-requires-clause-able g c = unspent c.args.self.now.kept.spent c.requires.able
 
-pub answer_kept-answered-requires-holds : goal.answer_kept-answered-requires-holds
-answer_kept-answered-requires-holds g c = c.requires.ready.holds
+pub answer_kept-requires-clause-holds : goal.answer_kept-requires-clause-holds
+answer_kept-requires-clause-holds g c = c.requires.ready.holds
 
-pub answer_kept-answered-requires-stands : goal.answer_kept-answered-requires-stands
-answer_kept-answered-requires-stands g c = ready_reads c.args.self.now.kept g.D.Desk.tells _ _ c.requires.ready
+pub answer_kept-requires-clause-stands : goal.answer_kept-requires-clause-stands
+answer_kept-requires-clause-stands g c = ready_reads c.args.self.now.kept g.D.Desk.tells _ _ c.requires.ready
 
 pub returns-clause-next : goal.returns-clause-next
 returns-clause-next g c = ap (λ (p : Reply × Machine). p.1) c.in_ok-answered.ensures.ok
@@ -33,16 +33,16 @@ pub returns-clause-follows : goal.returns-clause-follows
 returns-clause-follows g c = λ some told. c.in_ok-answered.ensures.follows told
 
 pub returns-clause-ready : goal.returns-clause-ready
-returns-clause-ready g c = reads_ready c.answer_kept-answered.new.kept g.D.Desk.tells _ _ c.in_ok-answered.ensures.holds c.in_ok-answered.ensures.stands
+returns-clause-ready g c = reads_ready c.answer_kept.new.kept g.D.Desk.tells _ _ c.in_ok-answered.ensures.holds c.in_ok-answered.ensures.stands
 
 pub returns-clause-found : goal.returns-clause-found
-returns-clause-found g c = λ some told image left. kept_opens c.answer_kept-answered.new.kept _ _ c.in_ok-answered.ensures.holds (c.in_ok-answered.ensures.stands told) image left
+returns-clause-found g c = λ some told image left. kept_opens c.answer_kept.new.kept _ _ c.in_ok-answered.ensures.holds (c.in_ok-answered.ensures.stands told) image left
 
 pub returns-clause-stops : goal.returns-clause-stops
-returns-clause-stops g c = λ some told. c.answer_kept-answered.ensures.stops told
+returns-clause-stops g c = λ some told. c.answer_kept.ensures.stops told
 
 pub returns-in_err-answered-clause-stops : goal.returns-in_err-answered-clause-stops
-returns-in_err-answered-clause-stops g c = λ some told. c.answer_kept-answered.ensures.stops told
+returns-in_err-answered-clause-stops g c = λ some told. c.answer_kept.ensures.stops told
 
 pub returns-in_err-write_behind-clause-stops : goal.returns-in_err-write_behind-clause-stops
-returns-in_err-write_behind-clause-stops g c = λ some told. c.answer_kept-answered.ensures.stops told
+returns-in_err-write_behind-clause-stops g c = λ some told. c.answer_kept.ensures.stops told
