@@ -78,8 +78,8 @@ fn refusal_of(fault: CodecFault) -> Result<Refusal, AllocError>
     }
 }
 
-// Answers a frame of a sender without a folder: the command that it spells is carried out, and what spells none is refused.
-fn answer_alone(
+/// Answers a frame of a sender without a folder: the command that it spells is carried out, and what spells none is refused.
+pub(crate) fn answer_alone(
     alloc: Global,
     core: &mut Core,
     who: &Who,
