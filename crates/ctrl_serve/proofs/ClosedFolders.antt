@@ -32,7 +32,7 @@ use Rattle.ctrl_serve.specs.FolderRuns.{TellsClosed}
 use Rattle.ctrl_serve.specs.Headline.{StaysClosed, IsLeftAlone, IsUnopened}
 use Rattle.ctrl_serve.specs.MigratedRuns.{CutsMigration, IsToldFull, LeftByMigration, MigratesWithin}
 use Rattle.ctrl_serve.specs.Runs.{IsDiskCaused}
-use Rattle.ctrl_serve.proofs.IntakeLaws.{disk_calm, disk_fault}
+use Rattle.serve_loop.proofs.IntakeLaws.{disk_calm, disk_fault}
 use Rattle.ctrl_serve.proofs.OpenedMachines.{stateless_marked}
 use Rattle.ctrl_core.specs.KeptFormat.{kept_format}
 

@@ -27,7 +27,8 @@ use Rattle.ctrl_serve.specs.CompleteRuns.{IsCalm, IsFull, CompletesFrom, ComesOu
 use Rattle.ctrl_serve.proofs.OpenedMachines.{one_machine_state}
 use Rattle.row_store.proofs.OneStates.{one_state, stateless_opens}
 use Rattle.ctrl_serve.specs.MigratedRuns.{HasRoomToOpen}
-use Rattle.ctrl_serve.proofs.RunLaws.{serves_completely, line_said}
+use Rattle.ctrl_serve.proofs.RunLaws.{line_said}
+use Rattle.serve_loop.proofs.CompleteLaws.{serves_completely}
 
 -- ---- a folder that was not opened
 

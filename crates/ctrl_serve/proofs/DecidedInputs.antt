@@ -24,7 +24,7 @@ use Rattle.run_notes.specs.declared.status.Status.TheVariants.{BadInput}
 use Rattle.run_notes.specs.Endings.{ending, ending_at}
 use Rattle.run_notes.specs.Inputs.{events_in, has_rest}
 use Rattle.ctrl_serve.specs.Reading.{is_decided}
-use Rattle.ctrl_serve.proofs.PieceLaws.{decided_bad}
+use Rattle.serve_loop.proofs.PieceLaws.{decided_bad}
 
 -- ---- plain input
 

@@ -45,7 +45,7 @@ use Rattle.ctrl_serve.specs.Loads.{SaysOneLine}
 use Rattle.ctrl_serve.specs.OpenedFolders.{Keeps}
 use Rattle.ctrl_serve.specs.RunStops.{AllOpenTo}
 use Rattle.ctrl_serve.specs.Runs.{IsDiskCaused}
-use Rattle.ctrl_serve.proofs.IntakeLaws.{disk_calm, disk_fault}
+use Rattle.serve_loop.proofs.IntakeLaws.{disk_calm, disk_fault}
 use Rattle.ctrl_serve.proofs.OpenedMachines.{kept_keeps, opens_by, opens_first, roomy_by, Made}
 use Rattle.ctrl_serve.proofs.FollowedRuns.{kept_by, opened_by}
 use Rattle.ctrl_serve.proofs.ClosedFolders.{peeks_none, unopened}

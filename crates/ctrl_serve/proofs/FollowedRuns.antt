@@ -16,33 +16,20 @@ use Rattle.ctrl_serve.proofs.OpenedMachines.{Made, Two≢One, never_first, migra
 use Rattle.row_store.specs.declared.bounds.StoreBounds.{StoreBounds}
 use Rattle.ctrl_keep.specs.KeptMachine.{Machine}
 use Rattle.ctrl_keep.specs.KeptBatches.{mark_at, end_at, batches_next, GoesOnBehind, Follows}
-use Rattle.ctrl_keep.specs.KeptController.{Controlled, machine_of}
-use Rattle.ctrl_keep.proofs.FollowedSteps.{batches_still}
+use Rattle.ctrl_keep.proofs.FollowedSteps.{batches_still, follows_still}
 use Rattle.session_mux.specs.declared.events.Event.{Event}
 use Rattle.session_mux.specs.declared.events.Event.TheVariants as event
 use Rattle.session_mux.specs.declared.sessions.Form.{Form}
 use Rattle.session_mux.specs.Completion.{frames_by}
-use Rattle.run_notes.specs.Inputs.{events_in, frames_in}
+use Rattle.run_notes.specs.Inputs.{events_in}
 use Rattle.run_notes.specs.KnownSessions.{Known, known_in, known_after, known_along}
-use Rattle.ctrl_serve.specs.declared.controller.Controller.{Controller}
-use Rattle.ctrl_serve.specs.declared.controller.Controller.TheVariants.{Kept}
-use Rattle.ctrl_serve.specs.ControllerViews.{serving_of}
-use Rattle.ctrl_serve.specs.FrameAnswer.{machine_behind, batches_behind, last_machine, last_batches}
+use Rattle.serve_loop.specs.FollowedFolders.{FollowsEvent, FollowsEvents as Chain}
+use Rattle.serve_loop.proofs.KnownLaws.{machine_then, machine_from_start}
+use Rattle.ctrl_serve.specs.FrameAnswer.{batches_behind, controller, last_machine, last_batches}
 use Rattle.ctrl_serve.specs.KnownReplies.{machine_after, machine_along, batches_along}
 use Rattle.ctrl_serve.specs.FollowedFolders.{FollowsEvents, FollowsInput}
 use Rattle.ctrl_serve.specs.UncompactedFolders.{CompactsNothing, LeavesOtherSlot}
-use Rattle.ctrl_serve.proofs.KnownLaws.{machine_then, machine_from_start}
 use Rattle.ctrl_core.specs.KeptFormat.{kept_format}
-
--- ---- a frame
-
--- The folder of a kept controller follows its machine.
-pub kept_follows : (x : Controller) (k : Controlled) (m : Machine) (before now : Image) → x ≡ Kept k → Follows (machine_of k) m before now → Follows (serving_of x).machine m before now
-kept_follows x k m before now is follows = subst (λ (c : Controller). Follows (serving_of c).machine m before now) (sym is) follows
-
--- What leaves the parts leaves that.
-pub follows_behind : (m next : Machine) (before mid now : Image) → Follows m next before mid → now ≡ mid → Follows m next before now
-follows_behind m next before mid now follows same = subst (λ (i : Image). Follows m next before i) (sym same) follows
 
 -- ---- one stretch behind another
 
@@ -101,13 +88,13 @@ neither_compacts a b c first later same =
 
 -- ---- along events
 
-pub batches_then : (bounds : StoreBounds) (es later : List Event) (k : Known) (m : Machine) (batches : List (List ℕ))
+batches_then : (bounds : StoreBounds) (es later : List Event) (k : Known) (m : Machine) (batches : List (List ℕ))
     → batches_along bounds (es ++ later) k m batches ≡ batches_along bounds later (known_along es k) (machine_along bounds es k m) (batches_along bounds es k m batches)
 batches_then bounds [] later k m batches = refl
 batches_then bounds (e ∷ es) later k m batches = batches_then bounds es later (known_after e k) (machine_after bounds e k m) (batches_next m (machine_after bounds e k m) batches)
 
 -- Before any event.
-pub follows_start : (bounds : StoreBounds) (k : Known) (m : Machine) (i : Image) → FollowsEvents bounds [] k m i i
+follows_start : (bounds : StoreBounds) (k : Known) (m : Machine) (i : Image) → FollowsEvents bounds [] k m i i
 follows_start bounds k m i = record { on = inl refl; still = λ _. refl; stands = λ batches s. s; elsewhere = λ _. else_still (slot_of (length (i Mark))) i i refl }
 
 -- Along one.
@@ -117,15 +104,11 @@ follows_one bounds e k m next before now is follows =
     let step = subst (λ (x : Machine). Follows m x before now) is follows in
     record { on = step.on; still = step.still; stands = step.stands; elsewhere = follows_else m (machine_after bounds e k m) before now step }
 
--- Along some, and then others, by what is known and the machine behind the first ones.
-pub follows_then : {bounds here : StoreBounds} {es later : List Event} {k k1 : Known} {m m1 : Machine} {before mid now : Image} → here ≡ bounds → k1 ≡ known_along es k → m1 ≡ machine_along bounds es k m
-    → FollowsEvents bounds es k m before mid → FollowsEvents here later k1 m1 mid now → FollowsEvents bounds (es ++ later) k m before now
-follows_then {bounds} {here} {es} {later} {k} {k1} {m} {m1} {before} {mid} {now} within known same first second =
-    let at : FollowsEvents bounds later (known_along es k) (machine_along bounds es k m) mid now =
-    subst (λ (y : Machine). FollowsEvents bounds later (known_along es k) y mid now) same
-    (subst (λ (y : Known). FollowsEvents bounds later y m1 mid now) known
-    (subst (λ (y : StoreBounds). FollowsEvents y later k1 m1 mid now) within second)) in
-    let last = machine_then bounds es later k m in
+-- Along some, and then others.
+follows_then : (bounds : StoreBounds) (es later : List Event) (k : Known) (m : Machine) (before mid now : Image)
+    → FollowsEvents bounds es k m before mid → FollowsEvents bounds later (known_along es k) (machine_along bounds es k m) mid now → FollowsEvents bounds (es ++ later) k m before now
+follows_then bounds es later k m before mid now first at =
+    let last = machine_then (controller bounds) es later k m in
     record {
       on = subst (λ (y : Machine). (y ≡ m) ⊎ GoesOnBehind m y) (sym last) (on_then m (machine_along bounds es k m) _ first.on at.on);
       still = λ back.
@@ -140,11 +123,19 @@ follows_then {bounds} {here} {es} {later} {k} {k1} {m} {m1} {before} {mid} {now}
           else_then here (subst (λ (bytes : List ℕ). Else (slot_of (length bytes)) mid now) mark (at.elsewhere neither.1));
     }
 
--- One event more.
-pub follows_more : {bounds here : StoreBounds} {es : List Event} (e : Event) {k k1 : Known} {m m1 next : Machine} {before mid now : Image} → here ≡ bounds → k1 ≡ known_along es k → m1 ≡ machine_along bounds es k m
-    → FollowsEvents bounds es k m before mid → next ≡ machine_after here e k1 m1 → Follows m1 next mid now → FollowsEvents bounds (es ++ e ∷ []) k m before now
-follows_more {bounds} {here} {es} e {k} {k1} {m} {m1} {next} {before} {mid} {now} within known same first is step =
-    follows_then within known same first (follows_one here e k1 m1 next mid now is step)
+-- Along one event, as the loop has it: a frame that arrived was followed, and otherwise every part reads as before.
+event_follows : (bounds : StoreBounds) (e : Event) (k : Known) (m : Machine) (before now : Image) → FollowsEvent (controller bounds) e k m before now → Follows m (machine_after bounds e k m) before now
+event_follows bounds (event.Opened s who) k m before now same = follows_still m m before now refl same
+event_follows bounds (event.Arrived s frame) k m before now follows = follows
+event_follows bounds (event.Ended s fault at) k m before now same = follows_still m m before now refl same
+event_follows bounds (event.Closed s rest) k m before now same = follows_still m m before now refl same
+
+-- Along all of them.
+events_follow : (bounds : StoreBounds) (es : List Event) (k : Known) (m : Machine) (before now : Image) → Chain (controller bounds) es k m before now → FollowsEvents bounds es k m before now
+events_follow bounds [] k m before now same = subst (λ (i : Image). FollowsEvents bounds [] k m before i) (sym same) (follows_start bounds k m before)
+events_follow bounds (e ∷ es) k m before now chain =
+    follows_then bounds (e ∷ []) es k m before chain.0 now (follows_one bounds e k m (machine_after bounds e k m) before chain.0 refl (event_follows bounds e k m before chain.0 chain.1))
+    (events_follow bounds es (known_after e k) (machine_after bounds e k m) chain.0 now chain.2)
 
 -- ---- along an input
 
@@ -161,15 +152,15 @@ along_batches bounds (event.Closed s rest ∷ es) k m batches =
     ap (batches_along bounds es (known_after (event.Closed s rest) k) m) (batches_still m batches) ∙ along_batches bounds es (known_after (event.Closed s rest) k) m batches
 
 -- Along all its events it follows it along all its frames.
-pub follows_input : (form : Form) (bounds : StoreBounds) (used : List ℕ) (es : List Event) (m : Machine) (before now : Image) → es ≡ events_in form used
-    → FollowsEvents bounds es (known_in form) m before now → FollowsInput form bounds m before now used
-follows_input form bounds used es m before now all follows =
-    let last : machine_along bounds es (known_in form) m ≡ last_machine form bounds m used =
-    machine_from_start form bounds es m ∙ ap (λ (l : List Event). machine_behind bounds m (frames_in form l)) all in
+pub follows_input : (form : Form) (bounds : StoreBounds) (used : List ℕ) (m : Machine) (before now : Image) → Chain (controller bounds) (events_in form used) (known_in form) m before now
+    → FollowsInput form bounds m before now used
+follows_input form bounds used m before now chain =
+    let es : List Event = events_in form used in
+    let follows = events_follow bounds es (known_in form) m before now chain in
+    let last : machine_along bounds es (known_in form) m ≡ last_machine form bounds m used = machine_from_start form (controller bounds) es m in
     record {
       still = λ back. follows.still (last ∙ back);
-      stands = λ batches s.
-          subst (Stands kept_format now) (along_batches bounds es (known_in form) m batches ∙ ap (λ (l : List Event). batches_behind bounds m (frames_in form l) batches) all) (follows.stands batches s);
+      stands = λ batches s. subst (Stands kept_format now) (along_batches bounds es (known_in form) m batches) (follows.stands batches s);
       elsewhere = λ same. follows.elsewhere (ap (λ (y : Machine). mark_at y.place) last ∙ same);
     }
 

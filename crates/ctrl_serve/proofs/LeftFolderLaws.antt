@@ -35,14 +35,14 @@ use Rattle.ctrl_serve.specs.CommandLine.{form_of}
 use Rattle.ctrl_serve.proofs.AdviseWords.{advise_words}
 use Rattle.ctrl_serve.specs.FolderWords.{compaction, Compacts}
 use Rattle.ctrl_serve.specs.ShipWords.{SaysOf, Ships}
-use Rattle.ctrl_serve.specs.FrameAnswer.{last_machine}
+use Rattle.ctrl_serve.specs.FrameAnswer.{controller, last_machine}
 use Rattle.ctrl_serve.specs.Headline.{folder_bounds, taking_of, IsLeftAlone, IsUnopened, Refuses, Replays, Runs, StaysClosed}
 use Rattle.ctrl_serve.specs.LeftFolders.{HoldsAlone, HoldsGranted, KeepsAllFrames}
 use Rattle.ctrl_serve.specs.OpenedFolders.{Keeps, OpensBy, OpensTo}
 use Rattle.ctrl_serve.specs.MigratedRuns.{MigratesWithin}
 use Rattle.ctrl_keep.specs.MigratedFolders.{OpensInFirst}
 use Rattle.ctrl_serve.specs.RunStops.{AllOpenTo}
-use Rattle.ctrl_serve.proofs.EndingLaws.{done_used}
+use Rattle.serve_loop.proofs.EndingLaws.{done_used}
 use Rattle.ctrl_serve.proofs.GrantedRuns.{behind-granted}
 use Rattle.ctrl_serve.proofs.OpenedMachines.{one_machine_state, opens_kept, opens_empty, stateless_marked}
 use Rattle.ctrl_core.specs.KeptFormat.{kept_format}
@@ -70,7 +70,7 @@ keeps_all : {S D : Type 0} (o : Outside S D) (form : Form) (bounds : StoreBounds
     → KeepsAllFrames form bounds bytes s (o.seen desk).reads (o.seen desk_now).reads (o.stopped desk_now).images
 keeps_all o form bounds most source source_now desk desk_now bytes s (inl closed) left told opens = absurd closed.unopened.why
 keeps_all o form bounds most source source_now desk desk_now bytes s (inr r) left told opens =
-    let used : take most r.serves.taken ≡ bytes = done_used (taking_of form most) bounds r.machine bytes (o.left source) (o.left source_now) (o.seen desk) (o.seen desk_now) left r.serves in
+    let used : take most r.serves.taken ≡ bytes = done_used (taking_of form most) (controller bounds) r.machine bytes (o.left source) (o.left source_now) (o.seen desk) (o.seen desk_now) left r.serves in
     let now : Image = (o.seen desk_now).reads in
     let keeps : Keeps now (last_machine form bounds r.machine bytes) = subst (λ (u : List ℕ). Keeps now (last_machine form bounds r.machine u)) used (r.keeps refl told) in
     record {

@@ -5,20 +5,12 @@ pub mod CarriedFits
 pub mod ControllerLaws
 pub mod RoomRuns
 pub mod AdviseWords
-pub mod KnownLaws
 pub mod FollowedRuns
-pub mod TurnLaws
-pub mod UsedLaws
 pub mod StopLaws
 pub mod RunStopLaws
-pub mod PieceLaws
-pub mod FailureLaws
-pub mod SaidLaws
 pub mod PlainLaws
 pub mod EndingLaws
-pub mod CutLaws
 pub mod RunLaws
-pub mod IntakeLaws
 pub mod LoadRuns
 pub mod UncountedRuns
 pub mod OpenedMachines
@@ -32,5 +24,4 @@ pub mod AcknowledgedLaws
 pub mod CompleteRunLaws
 pub mod LeftFolderLaws
 pub mod DecidedInputs
-pub mod NearLaws
 pub mod LineLaws

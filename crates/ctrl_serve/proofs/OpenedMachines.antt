@@ -1,6 +1,5 @@
 -- The machine to which a folder opens, and the one that a kept controller's folder keeps.
-use Rattle.std.specs.Prelude.{IsTrue, is_some}
-use Rattle.std.proofs.Common.{◌≡◌, ◌⊎◌, ℕ, zero, suc, ◌+◌, ◌<◌, inl, inr, List, [], ◌∷◌, ◌++◌, length, Bool, true, Some, refl, sym, ap, ap₂, ◌∙◌, subst, arith}
+use Rattle.std.proofs.Common.{◌≡◌, ◌⊎◌, ℕ, zero, suc, ◌+◌, ◌<◌, inl, inr, List, [], ◌∷◌, ◌++◌, length, Some, refl, sym, ap, ap₂, ◌∙◌, subst, arith}
 use Rattle.std.specs.declared.option.Option.{Option}
 use Rattle.std.proofs.lemmas.List.{length-append}
 use Rattle.ziti_outside.specs.Images.{Image}
@@ -27,10 +26,6 @@ use Rattle.ctrl_keep.specs.MigratedFolders.{IsMigrated, Migrates, OpensInFirst}
 use Rattle.row_store.proofs.StateRows.{start_valid, start_rows, start_has, start_is_one}
 use Rattle.ctrl_keep.specs.KeptMachine.{Machine, Place}
 use Rattle.ctrl_keep.specs.KeptController.{Controlled, HoldsRows, machine_of}
-use Rattle.ctrl_serve.specs.declared.controller.Controller.{Controller}
-use Rattle.ctrl_serve.specs.declared.controller.Controller.TheVariants.{Alone, Kept}
-use Rattle.ctrl_serve.specs.Controllers.{IsReady}
-use Rattle.ctrl_serve.specs.ControllerViews.{serving_of}
 use Rattle.ctrl_serve.specs.OpenedFolders.{Keeps, IsMigratedTo, OpensBy, OpensTo}
 use Rattle.ctrl_serve.specs.MigratedRuns.{HasRoomToOpen}
 use Rattle.ctrl_core.specs.KeptFormat.{kept_format}
@@ -62,7 +57,7 @@ kept_keeps k reads images holds held = record {
 }
 
 -- What a stop may leave opens to its state.
-kept_found : (k : Controlled) (reads : Image) (images : Image → Type 0) → HoldsRows k → ReadsAs k.stored reads images → (image : Image) → images image → OpensToState image k.state
+pub kept_found : (k : Controlled) (reads : Image) (images : Image → Type 0) → HoldsRows k → ReadsAs k.stored reads images → (image : Image) → images image → OpensToState image k.state
 kept_found k reads images holds held image is =
     let mark : image Mark ≡ reads Mark = held.stable_mark.each image is in
     let slot : image k.stored.part ≡ reads k.stored.part = held.stable_slot.each image is in
@@ -78,12 +73,6 @@ kept_found k reads images holds held image is =
         give = kept_give k reads images holds held;
       };
     }
-
--- So it is with a controller that has a folder.
-pub ready_keeps : (c : Controller) (tells : Bool) (reads : Image) (images : Image → Type 0) → is_some (serving_of c).kept ≡ true → IsReady tells (serving_of c).kept reads images → IsTrue tells
-    → Keeps reads (serving_of c).machine × ((image : Image) → images image → OpensToState image (serving_of c).machine.state)
-ready_keeps (Alone core) tells reads images is ready told = absurd cc
-ready_keeps (Kept k) tells reads images is ready told = (kept_keeps k reads images ready.0 (ready.1 told), kept_found k reads images ready.0 (ready.1 told))
 
 -- ---- the machine to which a folder opens
 

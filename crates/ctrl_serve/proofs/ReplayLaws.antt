@@ -1,6 +1,6 @@
 -- How the opening of the folder, the serving of the frames and the notes make up a run on the folder, with the counts of their faults.
-use Rattle.std.specs.Prelude.{⊤, true, false, Bool, IsTrue, IsSome, Ok}
-use Rattle.std.proofs.Common.{◌≡◌, ◌⊎◌, inl, inr, ℕ, List, [], length, take, refl, sym, ap, ◌∙◌, subst, arith}
+use Rattle.std.specs.Prelude.{⊤, true, false, Bool, IsTrue, Ok}
+use Rattle.std.proofs.Common.{◌≡◌, ◌⊎◌, inl, inr, ℕ, List, length, take, refl, ◌∙◌, subst, arith}
 use Rattle.std.specs.declared.option.Option.{Option}
 use Rattle.ziti_outside.specs.Images.{Image, After}
 use Rattle.ziti_outside.specs.Moments.{Leaves}
@@ -8,107 +8,46 @@ use Rattle.ziti_outside.specs.Told.{Took}
 use Rattle.ziti_outside.specs.declared.desk.Part.TheVariants.{Mark}
 use Rattle.ziti_outside.specs.Untouched.{OnlyDisk, OnlyNotes}
 use Rattle.ziti_outside.specs.Views.{Outside, Seen, Stopped}
-use Rattle.slot_files.specs.FolderImage.{StandsAsBefore}
-use Rattle.ctrl_keep.specs.MigratedFolders.{Migrates, MigratesBy}
-use Rattle.row_store.proofs.OneStates.{one_state}
-use Rattle.ctrl_serve.specs.MigratedRuns.{HasRoomToOpen}
 use Rattle.ziti_outside.proofs.MomentLaws.{Leaves-weaker}
-use Rattle.row_store.specs.StoredRows.{ReadsAs}
 use Rattle.ctrl_model.specs.State.{State, start}
+use Rattle.ctrl_core.specs.KeptFormat.{kept_format}
 use Rattle.ctrl_core.specs.KeptState.{Cored}
-use Rattle.row_store.specs.OpenedStates.{OpensToState}
+use Rattle.slot_files.specs.FolderImage.{StandsAsBefore}
 use Rattle.row_store.specs.declared.bounds.StoreBounds.{StoreBounds}
-use Rattle.ctrl_keep.specs.KeptMachine.{Machine}
+use Rattle.row_store.specs.OpenedStates.{OpensToState}
+use Rattle.row_store.specs.StoredRows.{ReadsAs}
+use Rattle.row_store.proofs.OneStates.{one_state}
 use Rattle.ctrl_keep.specs.KeptController.{Controlled, HoldsRows, machine_of}
-use Rattle.ctrl_serve.specs.declared.controller.Controller.{Controller}
-use Rattle.ctrl_serve.specs.declared.controller.Controller.TheVariants.{Kept}
-use Rattle.run_notes.specs.declared.ends.Cut.{Cut}
-use Rattle.run_notes.specs.declared.ends.Cut.TheVariants as cut
-use Rattle.run_notes.specs.declared.status.Status.{Status}
-use Rattle.run_notes.specs.declared.status.Status.TheVariants.{ReadFault, WriteFault, DiskFault, NoMemory}
-use Rattle.ctrl_serve.specs.Controllers.{Serving, IsOn, IsReady, GoesOn}
-use Rattle.ctrl_serve.specs.ControllerViews.{serving_of}
-use Rattle.ctrl_serve.specs.OpenedFolders.{Keeps}
-use Rattle.ctrl_serve.specs.UnsaidReplies.{IsOneAhead, KeepsOneAhead}
-use Rattle.ctrl_serve.specs.FollowedFolders.{FollowsInput}
-use Rattle.ctrl_serve.specs.FrameAnswer.{no_bounds, alone, last_machine}
-use Rattle.session_mux.specs.declared.events.Event.{Event}
+use Rattle.ctrl_keep.specs.KeptMachine.{Machine}
+use Rattle.ctrl_keep.specs.MigratedFolders.{Migrates, MigratesBy}
 use Rattle.session_mux.specs.declared.sessions.Form.{Form}
 use Rattle.session_mux.specs.declared.sessions.Form.TheVariants.{Plain}
-use Rattle.run_notes.specs.Inputs.{events_in}
-use Rattle.run_notes.specs.Endings.{is_kept, status_of_cut}
-use Rattle.run_notes.specs.NotedLines.{FindsNoMore, RisesOnce}
-use Rattle.ctrl_serve.specs.Failures.{TakesUntilFailure}
-use Rattle.ctrl_serve.specs.Answering.{Telling}
-use Rattle.ctrl_serve.specs.Pieces.{CutsInput, EndsInput, Intake, IsReadCaused, Passage}
 use Rattle.session_mux.specs.Completion.{completed}
-use Rattle.ctrl_serve.specs.Headline.{Serves, Replays, Taking, taking_of}
-use Rattle.ctrl_serve.proofs.GrantedRuns.{behind-granted}
-use Rattle.run_notes.specs.Notes.{status_lines}
-use Rattle.run_notes.specs.NotesSoFar.{NotesMore}
-use Rattle.run_notes.specs.KnownSessions.{known_in}
+use Rattle.run_notes.specs.declared.status.Status.{Status}
+use Rattle.run_notes.specs.declared.status.Status.TheVariants.{ReadFault, WriteFault, NoMemory}
+use Rattle.run_notes.specs.Inputs.{events_in}
+use Rattle.run_notes.specs.NotedLines.{RisesOnce}
 use Rattle.run_notes.proofs.NoteLaws.{notes_from}
-use Rattle.ctrl_serve.specs.Runs.{IsWriteCaused, IsDiskCaused, KeepsUsed, RunsOn, CountsFaults}
-use Rattle.ctrl_serve.proofs.FailureLaws.{takes_none}
-use Rattle.ctrl_serve.proofs.FollowedRuns.{opened_leaves, opened_stands_for, opened_still}
-use Rattle.ctrl_serve.proofs.ControllerLaws.{ready_behind}
-use Rattle.ctrl_serve.proofs.IntakeLaws.{all_no_fault, write_calm, disk_calm, input_serves, cut_serves, cut_counted}
-use Rattle.ctrl_serve.proofs.UsedLaws.{at_start}
-use Rattle.ctrl_serve.proofs.OpenedMachines.{Made, kept_keeps, ready_keeps, opens_by, opens_first, roomy_by}
-use Rattle.ctrl_serve.proofs.RunStopLaws.{Opening, no_more_behind, opened_stops, later_stops, used_stops}
-use Rattle.ctrl_core.specs.KeptFormat.{kept_format}
-
--- ---- what the folder keeps behind the frames
-
--- Where all events were answered, it keeps the machine behind the frames.
-pub served_keeps : (form : Form) (c : Serving) (new : Controller) (used first : List ℕ) (tells : Bool) (now : Image) (images : Image → Type 0) (status : Status)
-    → used ≡ first → (serving_of new).machine ≡ last_machine form c.bounds c.machine used → GoesOn c (serving_of new) → IsReady tells (serving_of new).kept now images
-    → KeepsUsed form c first tells now images status
-served_keeps form c new used first tells now images status is last on ready = λ has kept told.
-    let end : (serving_of new).machine ≡ last_machine form c.bounds c.machine first = last ∙ ap (last_machine form c.bounds c.machine) is in
-    let there = ready_keeps new tells now images (on.kind ∙ has) ready told in
-    (subst (λ (m : Machine). Keeps now m) end there.0, λ image left. subst (λ (m : Machine). OpensToState image m.state) end (there.1 image left))
-
--- Nothing is promised of it where the answering was cut short.
-not_kept : (by : Cut) → is_kept (status_of_cut by) ≡ true → ⊥
-not_kept cut.NoMemory e = cc
-not_kept cut.Disk e = cc
-not_kept cut.Unsaid e = cc
-
-pub cut_keeps : (form : Form) (c : Serving) (first : List ℕ) (tells : Bool) (now : Image) (images : Image → Type 0) (by : Cut) (result : Status) → result ≡ status_of_cut by → KeepsUsed form c first tells now images result
-cut_keeps form c first tells now images by result is = λ has kept told. absurd (not_kept by (sym (ap is_kept is) ∙ kept))
-
--- A run that was cut short ends with a disk fault only where the disk failed.
-pub cut_undisked : (by : Cut) (result : Status) → result ≡ status_of_cut by → (by ≡ cut.Disk → ⊥) → result ≡ DiskFault → ⊥
-cut_undisked cut.NoMemory result is other w = cc
-cut_undisked cut.Disk result is other w = other refl
-cut_undisked cut.Unsaid result is other w = cc
+use Rattle.serve_loop.specs.Answerers.{GoesOn, IsReady}
+use Rattle.serve_loop.specs.Failures.{TakesUntilFailure}
+use Rattle.serve_loop.specs.Pieces.{intake_of, passage_of}
+use Rattle.serve_loop.specs.ServedInputs.{RunsOn}
+use Rattle.serve_loop.proofs.FailureLaws.{takes_none}
+use Rattle.serve_loop.proofs.IntakeLaws.{write_calm, disk_calm}
+use Rattle.ctrl_serve.specs.ControllerViews.{kept_needs, kept_serving}
+use Rattle.ctrl_serve.specs.FrameAnswer.{no_bounds, alone, controller}
+use Rattle.ctrl_serve.specs.Headline.{Serves, Replays, Taking, taking_of}
+use Rattle.ctrl_serve.specs.MigratedRuns.{HasRoomToOpen}
+use Rattle.ctrl_serve.specs.OpenedFolders.{Keeps}
+use Rattle.ctrl_serve.specs.RunStops.{AllOpenTo}
+use Rattle.ctrl_serve.specs.Runs.{IsDiskCaused, IsWriteCaused, RunsKept, CountsFaults}
+use Rattle.ctrl_serve.proofs.ControllerLaws.{ready_reads}
+use Rattle.ctrl_serve.proofs.FollowedRuns.{follows_input, opened_leaves, opened_stands_for, opened_still}
+use Rattle.ctrl_serve.proofs.GrantedRuns.{behind-granted}
+use Rattle.ctrl_serve.proofs.OpenedMachines.{Made, kept_found, kept_keeps, opens_by, opens_first, roomy_by}
+use Rattle.ctrl_serve.proofs.RunStopLaws.{Opening, opened_stops, later_stops}
 
 -- ---- the counts of faults
-
--- Where all events of the input were answered.
-pub input_counts : {S D : Type 0} {left : S → Option (List ℕ)} {faults : S → ℕ} {seen : D → Seen} (source source_now : S) (desk desk_now : D) (status : Status)
-    → IsReadCaused (faults source) (faults source_now) status → RisesOnce (faults source) (faults source_now) → TakesUntilFailure left faults source source_now
-    → IsWriteCaused (seen desk).say_faults (seen desk_now).say_faults status → IsDiskCaused (seen desk).disk_faults (seen desk_now).disk_faults status → RisesOnce (seen desk).note_faults (seen desk_now).note_faults
-    → CountsFaults left faults seen source source_now desk desk_now status
-input_counts source source_now desk desk_now status read once until write disk noted = record {
-  read_fault = read.rose;
-  failed_take = read.calm;
-  write = write;
-  disk = disk;
-  read_faults_once = once;
-  note_faults_once = noted;
-  takes_until_failure = until;
-}
-
--- A run that was cut short meets no read fault, and then no take had failed.
-cut_read : (by : Cut) (before now : ℕ) → now ≡ before → IsReadCaused before now (status_of_cut by)
-cut_read cut.NoMemory before now calm = record { calm = λ _. calm; rose = λ r. absurd cc }
-cut_read cut.Disk before now calm = record { calm = λ _. calm; rose = λ r. absurd cc }
-cut_read cut.Unsaid before now calm = record { calm = λ _. calm; rose = λ r. absurd cc }
-
-pub cut_is_read : (by : Cut) (before now : ℕ) (status : Status) → status ≡ status_of_cut by → now ≡ before → IsReadCaused before now status
-cut_is_read by before now status is calm = subst (λ (u : Status). IsReadCaused before now u) (sym is) (cut_read by before now calm)
 
 -- Where memory was wanting, and that was told, before anything was taken.
 pub cut_counts : {S D : Type 0} {left : S → Option (List ℕ)} {faults : S → ℕ} {seen : D → Seen} {stopped : D → Stopped}
@@ -154,77 +93,36 @@ opened_counts {seen = seen} source source_now desk mid now status calls calm cou
   takes_until_failure = counts.takes_until_failure;
 }
 
--- ---- the run from a controller on
+-- ---- the run from a kept controller on
 
--- What the run takes from a controller on, and what passes outside.
-abbrev pub intake_from : {S D : Type 0} → Outside S D → Form → ℕ → Serving → Intake
-intake_from o form most c = record { form = form; most = most; from = c; tells = o.tells }
+-- What the folder keeps where the controller is ready on it, of a machine that is that of the controller.
+keeps_machine : (k : Controlled) (m : Machine) (tells : Bool) (reads : Image) (images : Image → Type 0) → machine_of k ≡ m → IsReady (kept_needs k) tells reads images → IsTrue tells
+    → Keeps reads m × AllOpenTo images m.state
+keeps_machine k m tells reads images is ready told =
+    let stands = ready_reads k tells reads images ready told in (
+      subst (λ (n : Machine). Keeps reads n) is (kept_keeps k reads images ready.holds stands),
+      λ image left. subst (λ (n : Machine). OpensToState image n.state) is (kept_found k reads images ready.holds stands image left),
+    )
 
-abbrev pub passing : {S D : Type 0} → (o : Outside S D) (source source_now : S) (desk desk_now : D) (failed : Bool) → Passage
-passing o source source_now desk desk_now failed =
-    record { left = o.left source; left_now = o.left source_now; told = record { failed = failed; desk = o.seen desk }; stopped = o.stopped desk; stopped_now = o.stopped desk_now }
-
--- Where all events of the input were answered.
-pub input_runs : {S D : Type 0} (o : Outside S D) {form : Form} {c : Serving} {most : ℕ} (new : Controller) {source source_now : S} {desk desk_now : D} {f g : Bool} (status : Status)
-    → (answered : EndsInput status (intake_from o form most c) (passing o source source_now desk desk_now f) (serving_of new).machine (record { failed = g; desk = o.seen desk_now })) → f ≡ false
-    → (IsSome c.kept → IsTrue o.tells → FollowsInput form c.bounds c.machine (o.seen desk).reads (o.seen desk_now).reads (take most answered.takes.taken))
-    → GoesOn c (serving_of new) → IsReady o.tells (serving_of new).kept (o.seen desk_now).reads (o.stopped desk_now).images
-    → RunsOn (taking_of form most) c o source source_now desk desk_now status
-input_runs o {form} {c} {most} new {source} {source_now} {desk} {desk_now} {f} {g} status told calm follows on ready =
-    let used : List ℕ = take most told.takes.taken in
+-- What the loop says of such a run.
+pub kept_runs : {S D : Type 0} (o : Outside S D) (form : Form) (most : ℕ) (k later : Controlled) (source source_now : S) (desk desk_now : D) (status : Status)
+    → RunsOn (intake_of form most controller (kept_serving k) o.tells) (passage_of (o.left source) (o.left source_now) false (o.seen desk) (o.stopped desk) (o.stopped desk_now))
+    (machine_of later) (GoesOn (kept_serving k) (kept_serving later) × IsReady (kept_needs later) o.tells (o.seen desk_now).reads (o.stopped desk_now).images) (o.seen desk_now) status
+    → RunsKept (taking_of form most) k o source source_now desk desk_now status
+kept_runs o form most k later source source_now desk desk_now status runs =
+    let reads = (o.seen desk_now).reads in
+    let images = (o.stopped desk_now).images in
     record {
-      serves = input_serves status told calm;
-      keeps = served_keeps form c new used used o.tells (o.seen desk_now).reads (o.stopped desk_now).images status refl told.last on ready;
-      follows = λ some kept tell. follows some tell;
-      stops = λ some tell. used_stops form c.bounds c.machine used (known_in form) (at_start form used) (o.seen desk).said refl refl (told.takes.stops some tell);
-      ahead = λ some is tell. absurd ((all_no_fault told.all).0 is);
+      serves = runs.serves;
+      keeps = λ kept told. let last = runs.last kept in (keeps_machine later _ o.tells reads images last.0 last.1.1 told).0;
+      found = λ kept told. let last = runs.last kept in (keeps_machine later _ o.tells reads images last.0 last.1.1 told).1;
+      follows = λ kept told. follows_input form k.stored.bounds (take most runs.serves.taken) (machine_of k) (o.seen desk).reads reads (runs.follows refl kept told);
+      stops = λ told. runs.stops refl told;
+      ahead = λ is told.
+          let ahead = runs.ahead is in
+          let there = keeps_machine later (machine_of later) o.tells reads images refl ahead.1.1 told in
+          record { machine = machine_of later; ahead = ahead.0; keeps = there.0; found = there.1 };
     }
-
--- Where a reply was not taken whole.
-by_unsaid : (by : Cut) → status_of_cut by ≡ WriteFault → by ≡ cut.Unsaid
-by_unsaid cut.NoMemory is = absurd cc
-by_unsaid cut.Disk is = absurd cc
-by_unsaid cut.Unsaid is = refl
-
--- Then a folder keeps the machine that is one frame ahead, as where its controller is ready.
-ahead_keeps : {form : Form} {c : Serving} {answered unanswered : List Event} (new : Controller) (tells : Bool) (reads : Image) (images : Image → Type 0)
-    → IsOneAhead form c.bounds c.machine answered unanswered (serving_of new).machine → IsSome c.kept → GoesOn c (serving_of new) → IsReady tells (serving_of new).kept reads images → IsTrue tells
-    → KeepsOneAhead form c.bounds c.machine answered unanswered reads images
-ahead_keeps new tells reads images ahead some on ready told =
-    let there = ready_keeps new tells reads images (on.kind ∙ some) ready told in
-    record { machine = (serving_of new).machine; ahead = ahead; keeps = there.0; found = there.1 }
-
--- And where it was cut short, and that was told.
-cut_runs_by : {S D : Type 0} (o : Outside S D) (by : Cut) {form : Form} {c : Serving} {most : ℕ} (new : Controller) {source source_now : S} {desk mid now : D} {f g : Bool} (h : Bool)
-    → CutsInput by (intake_from o form most c) (passing o source source_now desk mid f) (serving_of new).machine (record { failed = g; desk = o.seen mid }) → f ≡ false
-    → (by ≡ cut.Unsaid → IsOn o.tells o.seen o.stopped mid c (serving_of new)) → OnlyNotes o.seen o.stopped mid now → FindsNoMore o.stopped mid now → NotesMore g h (status_lines [] (status_of_cut by)) (o.seen mid) (o.seen now)
-    → RunsOn (taking_of form most) c o source source_now desk now (status_of_cut by)
-cut_runs_by o by {form} {c} {most} new {source} {source_now} {desk} {mid} {now} {f} {g} h told calm on others no_more more =
-    let used : List ℕ = take most told.takes.taken in
-    record {
-      serves = cut_serves by (record { failed = h; desk = o.seen now }) told calm others.replies more;
-      keeps = cut_keeps form c used o.tells (o.seen now).reads (o.stopped now).images by (status_of_cut by) refl;
-      follows = λ some kept tell. absurd (not_kept by kept);
-      stops = λ some tell. used_stops form c.bounds c.machine used (known_in form) (at_start form used) (o.seen desk).said refl refl (no_more_behind _ (told.takes.stops some tell) no_more);
-      ahead = λ some is tell.
-          let stands = on (by_unsaid by is) in
-          ahead_keeps {c = c} new o.tells (o.seen now).reads (o.stopped now).images (told.some.ahead (by_unsaid by is)) some stands.on
-          (ready_behind (serving_of new).kept o.tells (o.seen mid).reads (o.seen now).reads (o.stopped mid).images (o.stopped now).images others.parts others.found stands.ready) tell;
-    }
-
-pub cut_runs : {S D : Type 0} (o : Outside S D) (by : Cut) {form : Form} {c : Serving} {most : ℕ} (new : Controller) {source source_now : S} {desk mid now : D} {f g : Bool} (h : Bool) (status : Status) → status ≡ status_of_cut by
-    → CutsInput by (intake_from o form most c) (passing o source source_now desk mid f) (serving_of new).machine (record { failed = g; desk = o.seen mid }) → f ≡ false
-    → (by ≡ cut.Unsaid → IsOn o.tells o.seen o.stopped mid c (serving_of new)) → OnlyNotes o.seen o.stopped mid now → FindsNoMore o.stopped mid now → NotesMore g h (status_lines [] status) (o.seen mid) (o.seen now)
-    → RunsOn (taking_of form most) c o source source_now desk now status
-cut_runs o by {form} {c} {most} new {source} {source_now} {desk} {mid} {now} {f} {g} h status is cuts calm on others no_more more =
-    let behind = subst (λ (u : Status). NotesMore g h (status_lines [] u) (o.seen mid) (o.seen now)) is more in
-    subst (λ (u : Status). RunsOn (taking_of form most) c o source source_now desk now u) (sym is) (cut_runs_by o by new {f = f} {g = g} h cuts calm on others no_more behind)
-
--- The notes of such a run failed once at most.
-pub cut_run_counted : (by : Cut) {i : Intake} {o : Passage} {machine : Machine} {mid : Telling} (now : Telling) (status : Status) → status ≡ status_of_cut by → CutsInput by i o machine mid → o.told.failed ≡ false
-    → NotesMore mid.failed now.failed (status_lines [] status) mid.desk now.desk → RisesOnce o.told.desk.note_faults now.desk.note_faults
-cut_run_counted by {mid = mid} now status is cuts calm more =
-    cut_counted by now cuts calm (subst (λ (u : Status). NotesMore mid.failed now.failed (status_lines [] u) mid.desk now.desk) is more)
 
 -- A run without a folder begins at the start.
 pub started_serves : (core : Cored) (most : ℕ) (l m : Option (List ℕ)) (d e : Seen) (status : Status) → core ≡ record { state = start; live = true }
@@ -235,9 +133,9 @@ started_serves core most l m d e status is s =
 -- ---- the run on the folder
 
 -- What was said and noted since a desk that had said and noted the same.
-abbrev serves_from : {taking : Taking} {bounds : StoreBounds} {m : Machine} {l r : Option (List ℕ)} {mid now : Seen} {status : Status} (desk : Seen)
+abbrev serves_from : {taking : Taking} (bounds : StoreBounds) {m : Machine} {l r : Option (List ℕ)} {mid now : Seen} {status : Status} (desk : Seen)
     → mid.said ≡ desk.said → mid.noted ≡ desk.noted → mid.note_faults ≡ desk.note_faults → Serves taking bounds m l r mid now status → Serves taking bounds m l r desk now status
-serves_from {mid = mid} {now = now} desk replies noted failed s = record {
+serves_from bounds {mid = mid} {now = now} desk replies noted failed s = record {
   taken = s.taken;
   gave = s.gave;
   few = s.few;
@@ -267,7 +165,7 @@ pub replays_on : {S D : Type 0} (o : Outside S D) (form : Form) (bounds : StoreB
     → (IsTrue o.tells → Made bounds (o.seen desk).reads (o.seen mid).reads k.state) → OnlyDisk o.seen desk mid
     → (IsTrue o.tells → Leaves o.seen o.stopped desk mid (λ image. After (StandsAsBefore kept_format) (o.stopped desk).images image
     ⊎ ((s : State) × MigratesBy {T = Controlled} (Ok k) bounds (o.seen desk).reads s × OpensToState image s)))
-    → RunsOn (taking_of form most) (serving_of (Kept k)) o source source_now mid now status
+    → RunsKept (taking_of form most) k o source source_now mid now status
     → Replays (taking_of form most) bounds o source source_now desk now status
 replays_on o form bounds most k source source_now desk mid now status opens stands holds same made calls left runs =
     let before = (o.seen desk).reads in
@@ -283,16 +181,16 @@ replays_on o form bounds most k source source_now desk mid now status opens stan
       placed = refl;
       opens = λ told. opens_by bounds (length (before Mark)) before middle (o.stopped mid).images k refl (opens told) holds (stands told) (made told);
       migrates = roomy;
-      serves = serves_from (o.seen desk) calls.replies calls.notes calls.failed_notes runs.serves;
-      keeps = λ kept told. (runs.keeps refl kept told).0;
-      found = λ kept told. (runs.keeps refl kept told).1;
-      stands = λ kept told batches. opened_stands_for form k.stored.bounds bounds (machine_of k) before middle after used batches (keeps told) (made told) (runs.follows refl kept told);
-      still = λ kept told. opened_still form k.stored.bounds bounds (machine_of k) before middle after used (keeps told) (made told) (runs.follows refl kept told);
-      elsewhere = λ kept told. opened_leaves form k.stored.bounds bounds (machine_of k) before middle after used (keeps told) (made told) (runs.follows refl kept told);
-      ahead = λ is told. runs.ahead refl is told;
+      serves = serves_from k.stored.bounds (o.seen desk) calls.replies calls.notes calls.failed_notes runs.serves;
+      keeps = runs.keeps;
+      found = runs.found;
+      stands = λ kept told batches. opened_stands_for form k.stored.bounds bounds (machine_of k) before middle after used batches (keeps told) (made told) (runs.follows kept told);
+      still = λ kept told. opened_still form k.stored.bounds bounds (machine_of k) before middle after used (keeps told) (made told) (runs.follows kept told);
+      elsewhere = λ kept told. opened_leaves form k.stored.bounds bounds (machine_of k) before middle after used (keeps told) (made told) (runs.follows kept told);
+      ahead = runs.ahead;
       granted = λ stand n. behind-granted k.stored.bounds (machine_of k) (completed form (take n runs.serves.taken)) holds.valid stand;
-      stops = λ told all. opened_stops form k.stored.bounds (machine_of k) (events_in form used) (opening told) (runs.stops refl told) all;
-      stops_later = λ told. later_stops form k.stored.bounds (machine_of k) (events_in form used) (opening told) (runs.stops refl told);
+      stops = λ told all. opened_stops form k.stored.bounds (machine_of k) (events_in form used) (opening told) (runs.stops told) all;
+      stops_later = λ told. later_stops form k.stored.bounds (machine_of k) (events_in form used) (opening told) (runs.stops told);
     }) (λ told. roomy_by bounds before middle (o.stopped mid).images k (opens told) holds (stands told) (made told))
 
 -- The same, of bounds that are those of the run.
@@ -301,7 +199,7 @@ pub replays_within : {S D : Type 0} (o : Outside S D) (form : Form) (bounds take
     → (IsTrue o.tells → Made taken (o.seen desk).reads (o.seen mid).reads k.state) → OnlyDisk o.seen desk mid
     → (IsTrue o.tells → Leaves o.seen o.stopped desk mid (λ image. After (StandsAsBefore kept_format) (o.stopped desk).images image
     ⊎ ((s : State) × MigratesBy {T = Controlled} (Ok k) taken (o.seen desk).reads s × OpensToState image s)))
-    → RunsOn (taking_of form most) (serving_of (Kept k)) o source source_now mid now status
+    → RunsKept (taking_of form most) k o source source_now mid now status
     → Replays (taking_of form most) bounds o source source_now desk now status
 replays_within o form bounds taken most k source source_now desk mid now status same opens stands holds held made calls left runs =
     subst (λ (n : StoreBounds). Replays (taking_of form most) n o source source_now desk now status) same

@@ -1,7 +1,6 @@
 -- How what the parts of a run promise makes up what the run promises.
 use Rattle.std.specs.Prelude.{true, false, Bool}
-use Rattle.std.proofs.Common.{◌≡◌, ℕ, ◌⊎◌, inl, inr, List, [], ◌∷◌, codes, length, take, None, Some, refl, sym, ap, ◌∙◌, subst, arith}
-use Rattle.std.proofs.Math.Dec.{ltb}
+use Rattle.std.proofs.Common.{◌≡◌, ℕ, ◌⊎◌, inl, inr, List, [], ◌∷◌, codes, None, Some, refl, sym, ap, ◌∙◌, subst, arith}
 use Rattle.std.proofs.lemmas.Bool.{false≢true}
 use Rattle.std.specs.declared.option.Option.{Option}
 use Rattle.std.specs.Io.KnownBytes.{IsAtEnd}
@@ -23,68 +22,18 @@ use Rattle.ctrl_serve.specs.declared.command_line.Form.TheVariants.{Dry, Replay,
 use Rattle.run_notes.specs.declared.status.Status.{Status}
 use Rattle.run_notes.specs.declared.status.Status.TheVariants.{Done, Usage, BadInput, Truncated, ReadFault, WriteFault, DiskFault, Damaged, NoMemory, InputTooLong, FolderFull}
 use Rattle.ctrl_serve.specs.CommandLine.{reads_input}
-use Rattle.run_notes.specs.Endings.{is_cut, is_kept}
-use Rattle.ctrl_serve.specs.SaidReplies.{SaysAll}
-use Rattle.run_notes.specs.Inputs.{is_bad_input, has_rest}
 use Rattle.run_notes.specs.NotedLines.{FindsNoMore, RisesOnce, NotesLines}
-use Rattle.ctrl_serve.specs.FrameAnswer.{no_bounds, alone, replies}
-use Rattle.ctrl_serve.specs.Headline.{OnlySaysAndNotes, folder_bounds, taking_of, Serves, Taking, IsComplete, IsLeftAlone, IsUnopened, StaysClosed, Refuses, Replays, Runs}
+use Rattle.ctrl_serve.specs.FrameAnswer.{no_bounds, alone}
+use Rattle.ctrl_serve.specs.Headline.{OnlySaysAndNotes, folder_bounds, taking_of, Serves, Taking, IsLeftAlone, IsUnopened, StaysClosed, Refuses, Replays, Runs}
 use Rattle.ctrl_serve.specs.FolderWords.{Advises, Audits, Compacts, EndsCompaction, Looks}
 use Rattle.ctrl_serve.specs.ShipWords.{SaysShipped, Ships}
 use Rattle.ctrl_serve.specs.Loads.{counts_line, state_of_load, SaysOneLine, IsSaid}
 use Rattle.run_notes.specs.Notes.{usage_note}
 use Rattle.ctrl_serve.specs.Runs.{CountsFaults, IsDiskCaused, IsWriteCaused}
 use Rattle.ctrl_serve.proofs.AdviseWords.{AreAdviseWords}
-use Rattle.ctrl_serve.proofs.EndingLaws.{done_is, at_end, all_replies}
-use Rattle.ctrl_serve.proofs.ControllerLaws.{noted_alone}
-use Rattle.ctrl_serve.proofs.FailureLaws.{takes_none}
-use Rattle.ctrl_serve.proofs.PieceLaws.{good_undecided}
-
--- ---- a run that serves its input
-
--- Where all events were answered all replies were said.
-all_said : {status : Status} {taking : Taking} {bounds : StoreBounds} {m : Machine} {a b : Option (List ℕ)} {c d : Seen} (s : Serves taking bounds m a b c d status)
-    → is_kept status ≡ true → SaysAll taking.form bounds m s.said s.answered → Took c.said d.said (replies taking.form bounds m (take taking.most s.taken))
-all_said {taking = taking} {bounds = bounds} {m = m} {c = c} {d = d} s kept says =
-    subst (λ (l : List ℕ). Took c.said d.said l) (all_replies taking.form bounds m (take taking.most s.taken) s.said s.answered s.unanswered s.split (s.all kept) says) s.took
-
--- So it is complete where it was not cut short either.
-complete : {status : Status} {taking : Taking} {bounds : StoreBounds} {m : Machine} {a b : Option (List ℕ)} {c d : Seen} (s : Serves taking bounds m a b c d status)
-    → is_cut status ≡ false → is_kept status ≡ true → SaysAll taking.form bounds m s.said s.answered → IsComplete taking bounds m a b c d status
-complete s on kept says = inr (record { taken = s.taken; gave = s.gave; ends = s.ends on; said = all_said s kept says; read_on = s.read_on on })
-
--- Where no call failed it is complete, unless memory was wanting.
-pub serves_completely : (status : Status) {taking : Taking} {bounds : StoreBounds} {m : Machine} {a b : Option (List ℕ)} {c d : Seen}
-    → Serves taking bounds m a b c d status → (status ≡ ReadFault → ⊥) → (status ≡ WriteFault → ⊥) → (status ≡ DiskFault → ⊥) → IsComplete taking bounds m a b c d status
-serves_completely Done s read write disk = complete s refl refl s.says
-serves_completely Usage s read write disk = absurd s.says
-serves_completely BadInput s read write disk = complete s refl refl s.says
-serves_completely Truncated s read write disk = complete s refl refl s.says
-serves_completely ReadFault s read write disk = absurd (read refl)
-serves_completely WriteFault s read write disk = absurd (write refl)
-serves_completely DiskFault s read write disk = absurd (disk refl)
-serves_completely Damaged s read write disk = absurd s.says
-serves_completely NoMemory s read write disk = inl refl
-serves_completely InputTooLong s read write disk = complete s refl refl s.says
-serves_completely FolderFull s read write disk = absurd s.says
-
--- What is so of a status is of no other one of which it is never so.
-ends_otherwise : (IsSo : Status → Type 0) (status : Status) → IsSo status → (other : Status) → (IsSo other → ⊥) → status ≡ other → ⊥
-ends_otherwise IsSo status so other never is = never (subst IsSo is so)
-
--- It does not end with Usage.
-serves_no_usage : {status : Status} {taking : Taking} {bounds : StoreBounds} {m : Machine} {a b : Option (List ℕ)} {c d : Seen} → Serves taking bounds m a b c d status → status ≡ Usage → ⊥
-serves_no_usage {status} {taking} {bounds} {m} {a} {b} {c} {d} s is = ends_otherwise (λ (u : Status). Serves taking bounds m a b c d u) status s Usage (λ t. t.says) is
-
--- Where it is done it read its input to the end.
-done_at_end : (taking : Taking) (bounds : StoreBounds) (m : Machine) (a b : Option (List ℕ)) (c d : Seen) → Serves taking bounds m a b c d Done → IsAtEnd b
-done_at_end taking bounds m a b c d s =
-    let first : List ℕ = take taking.most s.taken in
-    let is = done_is (is_bad_input taking.form first) (has_rest taking.form first) (ltb taking.most (length s.taken)) (s.ends refl) in
-    at_end taking.most b s.taken is.whole (s.read_on refl (good_undecided taking.form first is.good))
-
-serves_to_end : {status : Status} {taking : Taking} {bounds : StoreBounds} {m : Machine} {a b : Option (List ℕ)} {c d : Seen} → Serves taking bounds m a b c d status → status ≡ Done → IsAtEnd b
-serves_to_end {status} {taking} {bounds} {m} {a} {b} {c} {d} s is = done_at_end taking bounds m a b c d (subst (λ (u : Status). Serves taking bounds m a b c d u) is s)
+use Rattle.serve_loop.proofs.CompleteLaws.{ends_otherwise, serves_completely, serves_no_usage, serves_to_end}
+use Rattle.serve_loop.proofs.DeskLaws.{noted_alone}
+use Rattle.serve_loop.proofs.FailureLaws.{takes_none}
 
 -- ---- a run as it was asked for
 

@@ -29,7 +29,7 @@ use Rattle.ctrl_serve.specs.Headline.{IsLeftAlone, IsUnopened}
 use Rattle.ctrl_serve.specs.Runs.{IsDiskCaused, IsWriteCaused}
 use Rattle.ctrl_serve.specs.ShipWords.{NotesShipped, SaysShipped, Ships}
 use Rattle.ctrl_serve.proofs.ClosedFolders.{peeks_none, unopened}
-use Rattle.ctrl_serve.proofs.IntakeLaws.{disk_calm, disk_fault, write_calm}
+use Rattle.serve_loop.proofs.IntakeLaws.{disk_calm, disk_fault, write_calm}
 
 -- The status with which a shipping ends.
 abbrev pub status_of : Option ShipFault → Status

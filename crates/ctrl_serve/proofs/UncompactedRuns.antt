@@ -28,11 +28,11 @@ use Rattle.run_notes.specs.declared.status.Status.TheVariants.{Done}
 use Rattle.run_notes.specs.Endings.{is_kept}
 use Rattle.ctrl_serve.specs.declared.bounds.Bounds.{Bounds}
 use Rattle.ctrl_serve.specs.declared.command_line.Form.TheVariants.{Replay}
-use Rattle.ctrl_serve.specs.FrameAnswer.{answer_to, frame_answer, last_machine, machine_behind}
+use Rattle.ctrl_serve.specs.FrameAnswer.{answer_to, controller, frame_answer, last_machine, machine_behind}
 use Rattle.ctrl_serve.specs.Headline.{folder_bounds, taking_of, Refuses, Replays, Runs, Taking}
 use Rattle.ctrl_serve.specs.UncompactedFolders.{ask_for_compact, spells_compact, CompactsNothing, LeavesOtherSlot}
-use Rattle.ctrl_serve.proofs.EndingLaws.{done_used}
-use Rattle.ctrl_serve.proofs.PieceLaws.{or_left, or_right}
+use Rattle.serve_loop.proofs.EndingLaws.{done_used}
+use Rattle.serve_loop.proofs.PieceLaws.{or_left, or_right}
 use Rattle.ctrl_core.specs.KeptFormat.{kept_format}
 
 -- ---- a machine
@@ -84,7 +84,7 @@ done_leaves_by : {S D : Type 0} (o : Outside S D) (form : Form) (bounds : StoreB
     → o.left source ≡ Some bytes → IsTrue o.tells → ((s : State) → OpensInFirst (o.seen desk).reads s → ⊥) → ask_for_compact (completed form bytes) ≡ false → LeavesOtherSlot (o.seen desk).reads (o.seen desk_now).reads
 done_leaves_by o form bounds most source source_now desk desk_now bytes (inl closed) left told other none = absurd closed.unopened.why
 done_leaves_by o form bounds most source source_now desk desk_now bytes (inr r) left told other none =
-    let used : take most r.serves.taken ≡ bytes = done_used (taking_of form most) bounds r.machine bytes (o.left source) (o.left source_now) (o.seen desk) (o.seen desk_now) left r.serves in
+    let used : take most r.serves.taken ≡ bytes = done_used (taking_of form most) (controller bounds) r.machine bytes (o.left source) (o.left source_now) (o.seen desk) (o.seen desk_now) left r.serves in
     r.elsewhere refl told (λ migrated. other r.machine.state migrated.first) (ap (λ (u : List ℕ). mark_at (last_machine form bounds r.machine u).place) used ∙ last_mark form bounds r.machine bytes none)
 
 pub done_leaves : {S D : Type 0} (o : Outside S D) (bounds : Bounds) (words : List (List ℕ)) (form : Form) (source source_now : S) (desk desk_now : D) (bytes : List ℕ)

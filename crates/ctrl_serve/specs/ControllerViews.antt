@@ -1,12 +1,31 @@
--- The machine that a controller is (docs/PROMISES.md, "The headline"). Only private contracts cite it.
-use Rattle.std.specs.Prelude.{not, None, Some}
-use Rattle.ctrl_keep.specs.KeptController.{machine_of}
-use Rattle.ctrl_serve.specs.declared.controller.Controller.{Controller}
-use Rattle.ctrl_serve.specs.declared.controller.Controller.TheVariants.{Alone, Kept}
-use Rattle.ctrl_serve.specs.Controllers.{Serving}
-use Rattle.ctrl_serve.specs.FrameAnswer.{no_bounds}
+-- What contracts see of the controller as what answers a run: of the core alone, and of one whose state a folder keeps. Only private contracts
+-- cite these.
+use Rattle.std.specs.Prelude.{◌≡◌, ◌<◌, ⊤, true, false, not}
+use Rattle.ziti_outside.specs.declared.desk.Part.TheVariants.{Mark}
+use Rattle.row_store.specs.declared.bounds.StoreBounds.{StoreBounds}
+use Rattle.row_store.specs.StoredRows.{IsStoreOf}
+use Rattle.ctrl_core.specs.KeptState.{Cored}
+use Rattle.ctrl_keep.specs.KeptController.{Controlled, HoldsRows, machine_of}
+use Rattle.ctrl_keep.specs.KeptMachine.{Machine}
+use Rattle.serve_loop.specs.Answerers.{Needs, Serving}
+use Rattle.ctrl_serve.specs.FrameAnswer.{alone, no_bounds}
 
--- What contracts see of a controller: of the core alone its state without a place, and of a kept one its machine and its bounds.
-abbrev pub serving_of : Controller → Serving
-serving_of (Alone core) = record { machine = record { state = core.state; place = None }; bounds = no_bounds; kept = None; able = core.live }
-serving_of (Kept k) = record { machine = machine_of k; bounds = k.stored.bounds; kept = Some k; able = not k.spent }
+-- The core alone: its state without a place, and no folder.
+abbrev pub alone_serving : Cored → Serving StoreBounds Machine
+alone_serving core = record { bounds = no_bounds; machine = alone core.state; slot = 0; folder = false; able = core.live }
+
+-- It needs nothing.
+abbrev pub no_needs : Needs
+no_needs = record { holds = ⊤; reads = λ reads. ⊤; leaves = λ reads image. ⊤ }
+
+-- A kept controller: its machine and its bounds, with a folder, unless it is spent.
+abbrev pub kept_serving : Controlled → Serving StoreBounds Machine
+kept_serving k = record { bounds = k.stored.bounds; machine = machine_of k; slot = k.stored.bounds.slot; folder = true; able = not k.spent }
+
+-- It needs the rows of its state, and that the folder reads as its store stands, with nothing pending in the mark and the slot that stands.
+abbrev pub kept_needs : Controlled → Needs
+kept_needs k = record {
+  holds = HoldsRows k;
+  reads = λ reads. (0 < k.stored.mark) × IsStoreOf reads k.stored;
+  leaves = λ reads image. (image Mark ≡ reads Mark) × (image k.stored.part ≡ reads k.stored.part);
+}

@@ -1,6 +1,6 @@
 -- The answer to a frame, and a run of the controller along the frames of one session or of many, with a folder or without
 -- (docs/RULES.md, "The controller", "The controller with a folder"; docs/FORMATS.md, "Traces and tagged replies").
-use Rattle.std.specs.Prelude.{ℕ, ◌+◌, ◌%◌, ◌^◌, List, [], ◌∷◌, ◌++◌, None, Ok, Err}
+use Rattle.std.specs.Prelude.{ℕ, ◌+◌, ◌%◌, ◌^◌, List, [], ◌∷◌, None, Ok, Err}
 use Rattle.std.specs.declared.result.Result.{Result}
 use Rattle.std.specs.List.{flat_map}
 use Rattle.channel_frame.specs.declared.frames.Frame.{Frame}
@@ -14,14 +14,14 @@ use Rattle.ctrl_model.specs.declared.replies.Reply.TheVariants.{Refused}
 use Rattle.ctrl_model.specs.State.{State}
 use Rattle.row_store.specs.declared.bounds.StoreBounds.{StoreBounds}
 use Rattle.ctrl_keep.specs.KeptMachine.{Machine, step}
-use Rattle.ctrl_keep.specs.KeptBatches.{batches_next}
+use Rattle.ctrl_keep.specs.KeptBatches.{batches_next, Follows}
+use Rattle.row_store.specs.OpenedStates.{OpensToState}
+use Rattle.serve_loop.specs.Answerers.{Answerer}
+use Rattle.serve_loop.specs.AnsweredFrames as loop
 use Rattle.reply_codec.specs.ReplyFrame.{reply_frame}
 use Rattle.session_mux.specs.declared.events.Event.{Event}
 use Rattle.session_mux.specs.declared.sessions.Form.{Form}
-use Rattle.session_mux.specs.declared.sessions.Form.TheVariants.{Plain, Trace}
 use Rattle.session_mux.specs.Completion.{completed}
-use Rattle.run_notes.specs.Inputs.{frames_in, no_counts}
-use Rattle.run_notes.specs.KnownSessions.{count_at, counted}
 use Rattle.command_codec.specs.declared.reading.CodecFault.{CodecFault}
 use Rattle.command_codec.specs.declared.reading.CodecFault.TheVariants as cause
 use Rattle.command_codec.specs.BodyMeaning.{meaning}
@@ -61,27 +61,23 @@ machine_behind_alone bounds who m (f ∷ fs) = machine_behind_alone bounds who (
 
 -- ---- many sessions
 
--- What stands before the frame of a reply: in a trace a byte 4 and the session, in plain input nothing.
-abbrev pub tag : Form → ℕ → List ℕ
-tag Plain s = []
-tag Trace s = 4 ∷ s ∷ []
-
--- The bytes of a reply to a session: the tag, and the frame with a sequence number and that of the request.
-abbrev pub reply_text : Form → (session sequence request : ℕ) → Reply → List ℕ
-reply_text form session sequence request reply = tag form session ++ spelling (reply_frame sequence request reply)
+-- The controller within the bounds of a folder, as who answers: its folder opens to the state of a machine, and follows it by its batches.
+abbrev pub controller : StoreBounds → Answerer Machine
+controller bounds = record {
+  next = λ who f m. (frame_answer bounds who f m).1;
+  reply = λ sequence who f m. spelling (reply_frame sequence f.sequence (frame_answer bounds who f m).0);
+  opens = λ image m. OpensToState image m.state;
+  follows = Follows;
+}
 
 -- The bytes of the replies to some frames, each with its session and who sent it: one list a reply, from counts of replies and a
 -- machine on. Each session counts its own replies.
 abbrev pub spoken : Form → StoreBounds → List ℕ → Machine → List (ℕ × (Who × Frame)) → List (List ℕ)
-spoken form bounds counts m [] = []
-spoken form bounds counts m (x ∷ xs) =
-    reply_text form x.0 (count_at counts x.0) x.1.1.sequence (frame_answer bounds x.1.0 x.1.1 m).0
-    ∷ spoken form bounds (counted counts x.0) (frame_answer bounds x.1.0 x.1.1 m).1 xs
+spoken form bounds counts m frames = loop.spoken form (controller bounds) counts m frames
 
 -- The machine behind some frames.
 abbrev pub machine_behind : StoreBounds → Machine → List (ℕ × (Who × Frame)) → Machine
-machine_behind bounds m [] = m
-machine_behind bounds m (x ∷ xs) = machine_behind bounds (frame_answer bounds x.1.0 x.1.1 m).1 xs
+machine_behind bounds m frames = loop.machine_behind (controller bounds) m frames
 
 -- For which batches a folder stands behind some frames, that stood for these before them: each step adds its own, or leaves them, or
 -- compacts them.
@@ -91,19 +87,19 @@ batches_behind bounds m (x ∷ xs) batches = batches_behind bounds (frame_answer
 
 -- Each reply to the first events of an input: those of a machine's run along the frames that arrive by them.
 abbrev pub replies_to : Form → StoreBounds → Machine → List Event → List (List ℕ)
-replies_to form bounds m events = spoken form bounds no_counts m (frames_in form events)
+replies_to form bounds m events = loop.replies_to form (controller bounds) m events
 
 -- Each reply to an input, in the order in which its frames are completed.
 abbrev pub each_reply : Form → StoreBounds → Machine → List ℕ → List (List ℕ)
-each_reply form bounds m used = spoken form bounds no_counts m (completed form used)
+each_reply form bounds m used = loop.each_reply form (controller bounds) m used
 
 -- The bytes of all replies to an input.
 abbrev pub replies : Form → StoreBounds → Machine → List ℕ → List ℕ
-replies form bounds m used = flat_map (λ bytes. bytes) (each_reply form bounds m used)
+replies form bounds m used = loop.replies form (controller bounds) m used
 
 -- The machine behind all frames of an input.
 abbrev pub last_machine : Form → StoreBounds → Machine → List ℕ → Machine
-last_machine form bounds m used = machine_behind bounds m (completed form used)
+last_machine form bounds m used = loop.last_machine form (controller bounds) m used
 
 -- For which batches a folder stands behind all frames of an input, that stood for these before them.
 abbrev pub last_batches : Form → StoreBounds → Machine → List ℕ → List (List ℕ) → List (List ℕ)

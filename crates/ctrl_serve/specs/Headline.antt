@@ -1,8 +1,8 @@
 -- What a run promises, for every line of words (docs/PROMISES.md, "The headline").
-use Rattle.std.specs.Prelude.{◌≡◌, ◌↔◌, ℕ, ◌+◌, ◌<◌, ◌≤◌, ◌^◌, ◌⊎◌, nat_lt, Bool, true, false, IsTrue, None, Some, is_some, List, [], ◌∷◌, ◌++◌, codes, length, take}
+use Rattle.std.specs.Prelude.{◌≡◌, ◌↔◌, ℕ, ◌<◌, ◌≤◌, ◌^◌, ◌⊎◌, Bool, true, IsTrue, None, Some, is_some, List, [], ◌∷◌, codes, length, take}
 use Rattle.std.specs.declared.option.Option.{Option}
 use Rattle.std.specs.Io.KnownBytes.{IsAtEnd}
-use Rattle.ziti_outside.specs.Told.{Gave, Took, AreTaken}
+use Rattle.ziti_outside.specs.Told.{AreTaken}
 use Rattle.ziti_outside.specs.Causes.{Rose}
 use Rattle.ziti_outside.specs.Images.{Image, After}
 use Rattle.ziti_outside.specs.Moments.{Now, Elapses}
@@ -20,7 +20,6 @@ use Rattle.row_store.specs.declared.bounds.StoreBounds.{StoreBounds}
 use Rattle.ctrl_keep.specs.KeptMachine.{Machine}
 use Rattle.ctrl_serve.specs.OpenedFolders.{Keeps, IsMigratedTo, OpensTo, StandsOpened}
 use Rattle.ctrl_serve.specs.declared.bounds.Bounds.{Bounds}
-use Rattle.session_mux.specs.declared.events.Event.{Event}
 use Rattle.session_mux.specs.declared.sessions.Form.{Form}
 use Rattle.session_mux.specs.declared.sessions.Form.TheVariants.{Plain}
 use Rattle.ctrl_serve.specs.declared.command_line.Form as command
@@ -30,12 +29,13 @@ use Rattle.run_notes.specs.declared.status.Status.{Status}
 use Rattle.run_notes.specs.declared.status.Status.TheVariants.{Done, Usage, ReadFault, WriteFault, DiskFault, Damaged, NoMemory, FolderFull}
 use Rattle.ctrl_serve.specs.CommandLine.{reads_input}
 use Rattle.run_notes.specs.NotedLines.{RisesOnce, NotesLines}
-use Rattle.ctrl_serve.specs.Failures.{TakesUntilFailure}
-use Rattle.ctrl_serve.specs.Reading.{is_decided, StaysNear}
-use Rattle.ctrl_serve.specs.FrameAnswer.{replies, last_machine, last_batches, no_bounds, alone}
+use Rattle.serve_loop.specs.Failures.{TakesUntilFailure}
+pub use Rattle.serve_loop.specs.LeftAlone.{IsLeftAlone, OnlySaysAndNotes}
+pub use Rattle.serve_loop.specs.ServedInputs.{Taking, taking_of}
+use Rattle.serve_loop.specs.ServedInputs as loop
+use Rattle.ctrl_serve.specs.FrameAnswer.{controller, last_machine, last_batches, no_bounds, alone}
 use Rattle.run_notes.specs.Inputs.{events_in}
-use Rattle.run_notes.specs.Endings.{ending, is_cut, is_kept}
-use Rattle.ctrl_serve.specs.SaidReplies.{Says}
+use Rattle.run_notes.specs.Endings.{is_kept}
 use Rattle.ctrl_serve.specs.Loads.{counts_line, state_of_load, SaysOneLine, IsSaid}
 use Rattle.ctrl_serve.specs.FolderWords.{Advises, Audits, Compacts}
 use Rattle.ctrl_serve.specs.ShipWords.{Ships}
@@ -43,7 +43,7 @@ use Rattle.ctrl_serve.specs.RunStops.{AllOpenTo, StopFinds}
 use Rattle.ctrl_serve.specs.MigratedRuns.{CutsMigration, HasRoomToOpen, IsToldFull, LeftByMigration}
 use Rattle.ctrl_serve.specs.UnsaidReplies.{KeepsOneAhead}
 use Rattle.ctrl_serve.specs.UncompactedFolders.{CompactsNothing, LeavesOtherSlot}
-use Rattle.run_notes.specs.Notes.{usage_note, damaged_note, full_note, status_lines, notes_of}
+use Rattle.run_notes.specs.Notes.{usage_note, damaged_note, full_note, status_lines}
 use Rattle.ctrl_core.specs.KeptFormat.{kept_format}
 
 -- The bounds that a run takes.
@@ -62,62 +62,24 @@ folder_bounds b = record { slot = b.slot; mark = b.mark }
 abbrev pub program_bounds : Bounds
 program_bounds = record { input = 2 ^ 32; slot = 2 ^ 30; mark = 2 ^ 20 }
 
--- A folder was left alone: every part reads as before, and a stop leaves no image that it did not leave before, at any moment and at the
--- end.
-pub record IsLeftAlone {D : Type 0} (seen : D → Seen) (stopped : D → Stopped) (desk desk_now : D) : Type 0 where
-  pub parts : (seen desk_now).reads ≡ (seen desk).reads
-  pub found : (image : Image) → (stopped desk_now).images image → (stopped desk).images image
-  pub stops : Elapses (stopped desk) (stopped desk_now) (λ image taken. (stopped desk).images image)
-
--- Replies were said and notes were written, and nothing else was done on a desk: the folder was left alone, and no fault of its calls was
--- counted.
-pub record OnlySaysAndNotes {D : Type 0} (seen : D → Seen) (stopped : D → Stopped) (old new : D) : Type 0 where
-  pub folder : IsLeftAlone seen stopped old new
-  pub failed_calls : (seen new).disk_faults ≡ (seen old).disk_faults
-
--- How an input is taken: its form, and how many bytes of it are used at most.
-pub record Taking : Type 0 where
-  pub form : Form
-  pub most : ℕ
-
--- The taking of an input of this form, of so many bytes at most.
-abbrev pub taking_of : Form → ℕ → Taking
-taking_of form most = record { form = form; most = most }
-
 -- A run over an input of a form from a machine on, within the bounds of its folder. Of what the source gave, the first `most` bytes
 -- are used. Of their events the run answered the first ones, and all of them unless memory was wanting, the disk failed or a say. What was
 -- said are the replies of the machine's run along the frames that arrived by the answered events, each whole, and where a say failed a front of
 -- the next one beside them. A run that was not cut short ends as the bytes decide, and only once they decide the input, nothing is left or more
--- than `most` bytes were given. At most a piece was taken past the byte at which the run ended. What was noted are the faults among the answered events, in the order in which the bytes decide them, and then how the run ended.
+-- than `most` bytes were given. At most a piece was taken past the byte at which the run ended. What was noted are the faults among the answered
+-- events, in the order in which the bytes decide them, and then how the run ended.
 -- A call on the disk fails only while a frame is answered, and memory is not wanting once the fault of plain input was noted.
-pub record Serves (taking : Taking) (bounds : StoreBounds) (machine : Machine) (left_before left_now : Option (List ℕ)) (before now : Seen) (status : Status) : Type 0 where
-  pub taken : List ℕ
-  pub gave : Gave left_before left_now taken
-  pub few : length taken ≤ taking.most + 65536
-  pub answered : List Event
-  pub unanswered : List Event
-  pub split : answered ++ unanswered ≡ events_in taking.form (take taking.most taken)
-  pub all : is_kept status ≡ true → unanswered ≡ []
-  pub said : List ℕ
-  pub took : Took before.said now.said said
-  pub says : Says taking.form bounds machine status said answered unanswered
-  pub ends : is_cut status ≡ false → status ≡ ending taking.form (take taking.most taken) (nat_lt taking.most (length taken))
-  pub read_on : is_cut status ≡ false → is_decided taking.form (take taking.most taken) ≡ false → IsAtEnd left_now ⊎ (taking.most < length taken)
-  pub near : StaysNear taking.form taking.most taken answered
-  pub notes : NotesLines (notes_of taking.form answered (take taking.most taken) status) before now
+abbrev pub Serves : Taking → StoreBounds → Machine → (left_before left_now : Option (List ℕ)) (before now : Seen) → Status → Type 0
+Serves taking bounds machine left_before left_now before now status = loop.Serves taking (controller bounds) machine left_before left_now before now status
 
 -- A complete run: it ended as the used bytes decide, all replies to their whole frames were said, and they decide the input, nothing is left
 -- or more than `most` bytes were given.
-pub record Completes (taking : Taking) (bounds : StoreBounds) (machine : Machine) (left_before left_now : Option (List ℕ)) (before now : Seen) (status : Status) : Type 0 where
-  pub taken : List ℕ
-  pub gave : Gave left_before left_now taken
-  pub ends : status ≡ ending taking.form (take taking.most taken) (nat_lt taking.most (length taken))
-  pub said : Took before.said now.said (replies taking.form bounds machine (take taking.most taken))
-  pub read_on : is_decided taking.form (take taking.most taken) ≡ false → IsAtEnd left_now ⊎ (taking.most < length taken)
+abbrev pub Completes : Taking → StoreBounds → Machine → (left_before left_now : Option (List ℕ)) (before now : Seen) → Status → Type 0
+Completes taking bounds machine left_before left_now before now status = loop.Completes taking (controller bounds) machine left_before left_now before now status
 
 -- A run without faults is complete, unless memory was wanting.
 abbrev pub IsComplete : Taking → StoreBounds → Machine → (left_before left_now : Option (List ℕ)) (before now : Seen) → Status → Type 0
-IsComplete taking bounds machine left_before left_now before now status = (status ≡ NoMemory) ⊎ Completes taking bounds machine left_before left_now before now status
+IsComplete taking bounds machine left_before left_now before now status = loop.IsComplete taking (controller bounds) machine left_before left_now before now status
 
 -- Why the folder was not opened, at a status, and what was noted: a call on the disk failed; it opens to no state, and then it reads as
 -- before and the place of the damage is told; it is one of the first format, which the run would migrate within bounds and which has no room

@@ -1,5 +1,4 @@
 pub mod CommandLine
-pub mod Failures
 pub mod Reading
 pub mod FrameAnswer
 pub mod SaidReplies
@@ -15,13 +14,9 @@ pub mod FolderRuns
 pub mod UncompactedFolders
 pub mod LookedLines
 pub mod Headline
-pub mod Controllers
 pub mod ControllerViews
 pub mod KnownReplies
 pub mod FollowedFolders
-pub mod Answering
-pub mod Turns
-pub mod Pieces
 pub mod Runs
 pub use Rattle.run_notes.specs.Statuses
 pub mod WorkedStops

@@ -1,85 +1,24 @@
--- What was said of some replies, and of those to the events of an input (docs/PROMISES.md, "The headline").
-use Rattle.std.specs.Prelude.{◌≡◌, ℕ, false, List, [], ◌∷◌, ◌++◌}
-use Rattle.std.specs.List.{flat_map, list_any}
-use Rattle.ziti_outside.specs.Told.{IsFront}
-use Rattle.channel_frame.specs.declared.frames.Frame.{Frame}
+-- What was said of some replies, and of the controller's to the events of an input (docs/PROMISES.md, "The headline").
+use Rattle.std.specs.Prelude.{ℕ, List}
 use Rattle.row_store.specs.declared.bounds.StoreBounds.{StoreBounds}
 use Rattle.ctrl_keep.specs.KeptMachine.{Machine}
 use Rattle.session_mux.specs.declared.events.Event.{Event}
-use Rattle.session_mux.specs.declared.events.Event.TheVariants.{Arrived}
 use Rattle.session_mux.specs.declared.sessions.Form.{Form}
-use Rattle.session_mux.specs.declared.sessions.Form.TheVariants.{Plain}
-use Rattle.session_mux.specs.Completion.{is_fault}
 use Rattle.run_notes.specs.declared.status.Status.{Status}
-use Rattle.run_notes.specs.declared.status.Status.TheVariants.{Done, Usage, BadInput, Truncated, ReadFault, WriteFault, DiskFault, Damaged, NoMemory, InputTooLong, FolderFull}
-use Rattle.ctrl_serve.specs.FrameAnswer.{replies_to}
-
--- The bytes of some replies, one after the other.
-abbrev pub joined : List (List ℕ) → List ℕ
-joined replies = flat_map (λ bytes. bytes) replies
-
--- These bytes are the first of the replies, each of them whole.
-pub record AreWhole (said : List ℕ) (all : List (List ℕ)) : Type 0 where
-  pub done : List (List ℕ)
-  pub rest : List (List ℕ)
-  pub split : done ++ rest ≡ all
-  pub same : said ≡ joined done
-
--- These bytes are the first of the replies, each of them whole, and a front of the next one.
-pub record AreCut (said : List ℕ) (all : List (List ℕ)) : Type 0 where
-  pub done : List (List ℕ)
-  pub next : List ℕ
-  pub rest : List (List ℕ)
-  pub split : done ++ next ∷ rest ≡ all
-  pub front : List ℕ
-  pub is_front : IsFront front next
-  pub same : said ≡ joined done ++ front
-
--- ---- the replies to the events of an input
+use Rattle.serve_loop.specs.SaidReplies as loop
+pub use Rattle.serve_loop.specs.SaidReplies.{joined, AreWhole, AreCut}
+use Rattle.ctrl_serve.specs.FrameAnswer.{controller}
 
 -- What was said once these events were answered: their replies.
 abbrev pub SaysAll : Form → StoreBounds → Machine → (said : List ℕ) → (answered : List Event) → Type 0
-SaysAll form bounds m said answered = said ≡ joined (replies_to form bounds m answered)
+SaysAll form bounds m said answered = loop.SaysAll form (controller bounds) m said answered
 
 -- What was said where the next reply was not taken whole: the replies to the answered events, and a front of the reply to the frame
 -- that arrives by the next event.
-pub record SaysFront (form : Form) (bounds : StoreBounds) (m : Machine) (said : List ℕ) (answered unanswered : List Event) : Type 0 where
-  pub session : ℕ
-  pub frame : Frame
-  pub later : List Event
-  pub first : unanswered ≡ Arrived session frame ∷ later
-  pub reply : List ℕ
-  pub is_reply : replies_to form bounds m (answered ++ Arrived session frame ∷ []) ≡ replies_to form bounds m answered ++ reply ∷ []
-  pub front : List ℕ
-  pub is_front : IsFront front reply
-  pub same : said ≡ joined (replies_to form bounds m answered) ++ front
-
--- What was said where a call on the disk failed, as only one does that a frame asks for: the replies to the answered events, and the
--- next event brings a frame.
-pub record SaysBefore (form : Form) (bounds : StoreBounds) (m : Machine) (said : List ℕ) (answered unanswered : List Event) : Type 0 where
-  pub session : ℕ
-  pub frame : Frame
-  pub later : List Event
-  pub first : unanswered ≡ Arrived session frame ∷ later
-  pub same : SaysAll form bounds m said answered
-
--- What was said where memory was wanting: the replies to the answered events. Once the fault of plain input was told nothing is left
--- to do, and no memory is wanted any more.
-pub record SaysStarved (form : Form) (bounds : StoreBounds) (m : Machine) (said : List ℕ) (answered : List Event) : Type 0 where
-  pub same : SaysAll form bounds m said answered
-  pub calm : form ≡ Plain → list_any is_fault answered ≡ false
+abbrev pub SaysFront : Form → StoreBounds → Machine → (said : List ℕ) → (answered unanswered : List Event) → Type 0
+SaysFront form bounds m said answered unanswered = loop.SaysFront form (controller bounds) m said answered unanswered
 
 -- What a run over an input has said at a status, where these events were answered and the others were not: the replies to the
--- answered ones, each whole, and where a reply was not taken a front of the next one beside them. The other statuses never come.
+-- answered ones, each whole, and where a reply was not taken a front of the next one beside them.
 abbrev pub Says : Form → StoreBounds → Machine → Status → (said : List ℕ) → (answered unanswered : List Event) → Type 0
-Says form bounds m Done said answered unanswered = SaysAll form bounds m said answered
-Says form bounds m Usage said answered unanswered = ⊥
-Says form bounds m BadInput said answered unanswered = SaysAll form bounds m said answered
-Says form bounds m Truncated said answered unanswered = SaysAll form bounds m said answered
-Says form bounds m ReadFault said answered unanswered = SaysAll form bounds m said answered
-Says form bounds m WriteFault said answered unanswered = SaysFront form bounds m said answered unanswered
-Says form bounds m DiskFault said answered unanswered = SaysBefore form bounds m said answered unanswered
-Says form bounds m Damaged said answered unanswered = ⊥
-Says form bounds m NoMemory said answered unanswered = SaysStarved form bounds m said answered
-Says form bounds m InputTooLong said answered unanswered = SaysAll form bounds m said answered
-Says form bounds m FolderFull said answered unanswered = ⊥
+Says form bounds m status said answered unanswered = loop.Says form (controller bounds) m status said answered unanswered

@@ -10,8 +10,6 @@ mod folder;
 mod laws;
 mod loads;
 mod looking;
-mod pieces;
-mod serving;
 mod shipping;
 mod top;
 mod worked;

@@ -9,9 +9,8 @@ ghost use Rattle.ctrl_serve.specs.Headline.{OnlySaysAndNotes};
 ghost use Rattle.ctrl_serve.specs.Loads.{counts_line, state_of_load, SaysOneLine};
 ghost use Rattle.ctrl_serve.specs.Runs.{IsWriteCaused};
 
-use crate::controller::carry_alone;
+use crate::controller::{answer_alone, carry_alone};
 use channel_frame::Frame;
-use command_codec::{CodecFault, read};
 use ctrl_core::Core;
 use ctrl_model::{Command, Reply, Who};
 use load_gen::make;
@@ -20,21 +19,14 @@ use run_notes::{Cut, Status, tell_cut};
 use std::alloc::{AllocError, Global};
 use ziti_outside::{Desk, Failed};
 
-// Answers a frame without a folder, and says no reply. A frame that spells no command is refused, and changes nothing.
+// Answers a frame of an administrator without a folder, and says no reply.
 fn answer_unsaid(alloc: Global, core: &mut Core, frame: &Frame) -> Result<(), AllocError>
     requires { core.old.live ≡ true }
     ensures { OnOk result (core.new ≡ record { state = (frame_answer no_bounds Admin frame.now (alone core.old.state)).1.state; live = true }) }
 {
-    match read(alloc, frame.content, frame.body.as_slice()) {
-        Ok(command) => {
-            let carried = carry_alone(core, &Who::Admin, &command);
-            drop(command);
-            drop(carried?);
-            Ok(())
-        }
-        Err(CodecFault::NoMemory) => Err(AllocError),
-        Err(_) => Ok(()),
-    }
+    let reply = answer_alone(alloc, core, &Who::Admin, frame)?;
+    drop(reply);
+    Ok(())
 }
 
 // Answers the frames in order, and says no reply.

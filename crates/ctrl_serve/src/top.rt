@@ -1,61 +1,31 @@
-ghost use Rattle.std.specs.Prelude.{◌≡◌, ◌⊎◌, ◌≢◌, ℕ, ◌≤◌, ◌^◌, true, List, [], ◌∷◌, codes, None, Some};
+ghost use Rattle.std.specs.Prelude.{◌≡◌, ◌⊎◌, ◌≢◌, ℕ, ◌≤◌, ◌^◌, List, [], ◌∷◌, codes, None, Some};
 ghost use Rattle.journal_core.specs.Room.{HoldsRoom};
 ghost use Rattle.ctrl_model.specs.State.{start};
 ghost use Rattle.session_mux.specs.declared.sessions.Form.TheVariants.{Plain};
-ghost use Rattle.ctrl_serve.specs.ControllerViews.{serving_of};
-ghost use Rattle.ctrl_serve.specs.Controllers.{IsReadyOn, SpeaksAlone};
 ghost use Rattle.ctrl_serve.specs.FrameAnswer.{no_bounds, alone};
 ghost use Rattle.ctrl_serve.specs.CommandLine.{form_of, texts};
 ghost use Rattle.ctrl_serve.specs.declared.command_line.Form.TheVariants.{Advise};
 ghost use Rattle.ctrl_serve.specs.FolderWords.{Advises};
 ghost use Rattle.run_notes.specs.NotedLines.{RisesOnce};
-ghost use Rattle.ctrl_serve.specs.Runs.{CountsFaults, IsDiskCaused, IsWriteCaused, RunsOn};
+ghost use Rattle.ctrl_serve.specs.Runs.{CountsFaults, IsDiskCaused, IsWriteCaused};
 ghost use Rattle.ctrl_serve.specs.Headline.{folder_bounds, program_bounds, taking_of, AreBounds, IsLeftAlone, IsUnopened, OnlySaysAndNotes, Refuses, Replays, Serves, Runs};
 
 use crate::bounds::Bounds;
 use crate::command_line::{Form, form_of};
-use crate::controller::Controller;
+use crate::controller::{AloneController, KeptController};
 use crate::folder::{run_compact, run_look, tell_closed};
 use crate::loads::run_load;
 use crate::looking::Look;
-use crate::pieces::serve_input;
 use crate::shipping::run_ship;
 use ctrl_core::Core;
 use ctrl_keep::Kept;
 use row_store::StoreBounds;
-use run_notes::{Cut, Notes, Status, note_lines, status_line, tell_cut, tell_cut_behind};
+use run_notes::{Cut, Status, note_lines, status_line, tell_cut};
+use serve_loop::run_on;
 use std::alloc::Global;
 use ziti_outside::{Desk, Source};
 
-// Takes the input in pieces and answers its frames.
-fn run_on<S: Source, D: Desk>(
-    alloc: Global,
-    most: u64,
-    form: session_mux::Form,
-    controller: &mut Controller,
-    source: &mut S,
-    desk: &mut D,
-) -> Status
-    requires most { most ≤ 2 ^ 32 }
-    requires able { (serving_of controller.old).able ≡ true }
-    requires ready { IsReadyOn D.tells D.seen D.stopped desk.old (serving_of controller.old) }
-    ensures runs { RunsOn (taking_of form most) (serving_of controller.old)
-        (record { left = S.left; faults = S.faults; tells = D.tells; seen = D.seen; stopped = D.stopped })
-        source.old source.new desk.old desk.new result }
-    ensures counts { CountsFaults S.left S.faults D.seen source.old source.new desk.old desk.new result }
-    ensures undisked { (serving_of controller.old).kept ≡ None → result ≢ Status.DiskFault }
-    ensures alone { SpeaksAlone D.seen D.stopped desk.old desk.new (serving_of controller.old) }
-    ensures room { HoldsRoom D.tells (serving_of controller.old).bounds.slot D.seen D.stopped desk.old desk.new }
-{
-    let mut notes = Notes::new();
-    match serve_input(alloc, most, form, controller, source, &mut notes, desk) {
-        Ok(status) => status,
-        Err(cut) => tell_cut_behind(cut, &mut notes, desk),
-    }
-}
-
-// Runs without a folder, from the start. The controller is dropped before the status is given: a function that owns an enum of large
-// structs and drops it at its end gets no verdict.
+// Runs without a folder, from the start.
 fn run_dry<S: Source, D: Desk>(alloc: Global, most: u64, source: &mut S, desk: &mut D) -> Status
     requires { most ≤ 2 ^ 32 }
     ensures serves { Serves (taking_of Plain most) no_bounds (alone start) (S.left source.old) (S.left source.new) (D.seen desk.old) (D.seen desk.new) result }
@@ -65,7 +35,7 @@ fn run_dry<S: Source, D: Desk>(alloc: Global, most: u64, source: &mut S, desk: &
 {
     match Core::empty(alloc) {
         Ok(core) => {
-            let mut controller = Controller::Alone(core);
+            let mut controller = AloneController { core };
             let form = session_mux::Form::Plain;
             let status = run_on(alloc, most, form, &mut controller, source, desk);
             drop(controller);
@@ -103,7 +73,7 @@ fn run_replay<S: Source, D: Desk>(
 {
     match Kept::open(alloc, desk, store_bounds(bounds)) {
         Ok(kept) => {
-            let mut controller = Controller::Kept(kept);
+            let mut controller = KeptController { kept };
             let status = run_on(alloc, bounds.input, form, &mut controller, source, desk);
             drop(controller);
             status

@@ -4,8 +4,8 @@ use Rattle.run_notes.specs.NotedLines.{RisesOnce}
 use Rattle.ctrl_serve.specs.LookedLines.{line_of}
 use Rattle.ctrl_serve.specs.Runs.{IsWriteCaused}
 use Rattle.ctrl_serve.proofs.FolderLaws.{audited, looked_alone, unaudited}
-use Rattle.ctrl_serve.proofs.ControllerLaws.{LeftAlone-then, noted_alone}
-use Rattle.ctrl_serve.proofs.IntakeLaws.{disk_calm, write_calm}
+use Rattle.serve_loop.proofs.DeskLaws.{LeftAlone-then, noted_alone}
+use Rattle.serve_loop.proofs.IntakeLaws.{disk_calm, write_calm}
 use Rattle.ctrl_serve.proofs.ClosedFolders.{closed_calm, closed_disk, never_spent}
 use Rattle.ctrl_serve.proofs.RunLaws.{line_statuses}
 use Rattle.ctrl_serve.proofs.folder.run_look.Goals as goal

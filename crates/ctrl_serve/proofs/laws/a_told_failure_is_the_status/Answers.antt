@@ -1,5 +1,5 @@
 use Rattle.run_notes.specs.declared.status.Status.TheVariants.{ReadFault, WriteFault, DiskFault}
-use Rattle.ctrl_serve.proofs.FailureLaws.{told_status}
+use Rattle.serve_loop.proofs.FailureLaws.{told_status}
 use Rattle.ctrl_serve.proofs.laws.a_told_failure_is_the_status.Goals as goal
 
 pub returns-clause-take : goal.returns-clause-take

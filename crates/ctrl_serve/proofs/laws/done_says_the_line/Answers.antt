@@ -1,7 +1,7 @@
 use Rattle.std.proofs.Common.{◌++◌, List, ℕ, Some, ap, ◌∙◌, subst}
 use Rattle.std.specs.declared.option.Option.{Option}
 use Rattle.ziti_outside.specs.Told.{Took}
-use Rattle.ctrl_serve.proofs.EndingLaws.{told_took, nothing_is_front}
+use Rattle.serve_loop.proofs.EndingLaws.{told_took, nothing_is_front}
 use Rattle.ctrl_serve.proofs.laws.done_says_the_line.Goals as goal
 
 pub returns-clause-said : goal.returns-clause-said

@@ -1,4 +1,4 @@
-use Rattle.ctrl_serve.proofs.ControllerLaws.{notes_alone}
+use Rattle.serve_loop.proofs.DeskLaws.{notes_alone}
 use Rattle.ctrl_serve.proofs.loads.say_line.Goals as goal
 
 pub returns-in-Err-clause-others : goal.returns-in-Err-clause-others

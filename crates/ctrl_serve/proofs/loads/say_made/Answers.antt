@@ -1,4 +1,4 @@
-use Rattle.ctrl_serve.proofs.ControllerLaws.{notes_behind, says_alone}
+use Rattle.serve_loop.proofs.DeskLaws.{notes_behind, says_alone}
 use Rattle.ctrl_serve.proofs.LineLaws.{line_whole, line_cut}
 use Rattle.ctrl_serve.proofs.loads.say_made.Goals as goal
 

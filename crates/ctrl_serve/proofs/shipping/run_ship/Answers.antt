@@ -1,6 +1,6 @@
 use Rattle.std.proofs.Common.{ℕ, None, Some, inr, subst}
 use Rattle.run_notes.specs.NotedLines.{RisesOnce}
-use Rattle.ctrl_serve.proofs.ControllerLaws.{LeftAlone-then, noted_alone}
+use Rattle.serve_loop.proofs.DeskLaws.{LeftAlone-then, noted_alone}
 use Rattle.ctrl_serve.proofs.ShipLaws.{IsShippedBy, disk_told, shipped_alone, shipped_calls, shipped_done, shipped_notes, shipped_says, unshipped, write_told}
 use Rattle.ctrl_serve.proofs.shipping.run_ship.Goals as goal
 

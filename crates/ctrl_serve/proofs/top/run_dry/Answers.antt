@@ -1,8 +1,8 @@
 use Rattle.std.proofs.Common.{refl, arith}
 use Rattle.session_mux.specs.declared.sessions.Form.TheVariants.{Plain}
-use Rattle.ctrl_serve.proofs.ControllerLaws.{notes_alone}
-use Rattle.ctrl_serve.proofs.FailureLaws.{takes_none}
-use Rattle.ctrl_serve.proofs.IntakeLaws.{none_serves}
+use Rattle.serve_loop.proofs.DeskLaws.{notes_alone}
+use Rattle.serve_loop.proofs.FailureLaws.{takes_none}
+use Rattle.serve_loop.proofs.IntakeLaws.{none_serves}
 use Rattle.ctrl_serve.proofs.ReplayLaws.{started_serves, cut_counts}
 use Rattle.ctrl_serve.proofs.top.run_dry.Goals as goal
 

@@ -4,7 +4,8 @@ use Rattle.row_store.specs.declared.bounds.StoreBounds.{StoreBounds}
 use Rattle.ctrl_keep.specs.KeptController.{Controlled}
 use Rattle.ctrl_serve.specs.Headline.{folder_bounds, IsUnopened}
 use Rattle.ctrl_serve.proofs.ClosedFolders.{closed_calm, closed_disk, never_spent, opens_none, unopened}
-use Rattle.ctrl_serve.proofs.ReplayLaws.{closed_counts, opened_counts, replays_within}
+use Rattle.ctrl_serve.proofs.ControllerLaws.{reads_ready}
+use Rattle.ctrl_serve.proofs.ReplayLaws.{closed_counts, kept_runs, opened_counts, replays_within}
 use Rattle.ctrl_serve.proofs.RoomRuns.{closed_room, opened_room}
 use Rattle.ctrl_serve.proofs.top.run_replay.Goals as goal
 
@@ -13,7 +14,9 @@ returns-in-Ok-clause-replays g c =
     let e = c.in-Ok.ensures in
     inr (replays_within (record { left = g.S.Source.left; faults = g.S.Source.faults; tells = g.D.Desk.tells; seen = g.D.Desk.seen; stopped = g.D.Desk.stopped })
     c.args.form (folder_bounds c.args.bounds) c.store_bounds.result c.args.bounds.input c.in-Ok.kept c.args.source.now c.run_on-status.new.source c.args.desk.now c.open.new.desk c.run_on-status.new.desk c.run_on-status.result
-    c.store_bounds.ensures e.opens e.stands e.holds e.opened.0 e.created c.open.ensures.others e.stops c.run_on-status.ensures.runs)
+    c.store_bounds.ensures e.opens e.stands e.holds e.opened.0 e.created c.open.ensures.others e.stops
+    (kept_runs (record { left = g.S.Source.left; faults = g.S.Source.faults; tells = g.D.Desk.tells; seen = g.D.Desk.seen; stopped = g.D.Desk.stopped })
+    c.args.form c.args.bounds.input c.in-Ok.kept c.run_on-status.new.answerer.kept c.args.source.now c.run_on-status.new.source c.open.new.desk c.run_on-status.new.desk c.run_on-status.result c.run_on-status.ensures.runs))
 
 pub returns-in-Ok-clause-counts : goal.returns-in-Ok-clause-counts
 returns-in-Ok-clause-counts g c =
@@ -46,3 +49,6 @@ returns-in-Ok-clause-room g c =
 
 pub returns-in-Err-clause-room : goal.returns-in-Err-clause-room
 returns-in-Err-clause-room g c = closed_room (folder_bounds c.args.bounds) (omega (arith, c.requires.slot_low)) (subst (λ (b : StoreBounds). HoldsRoom g.D.Desk.tells (max empty_size b.slot) g.D.Desk.seen g.D.Desk.stopped c.args.desk.now c.open.new.desk) c.store_bounds.ensures c.open.ensures.room) c.tell_closed.ensures.others.parts c.tell_closed.ensures.others.found
+
+pub run_on-status-requires-clause-ready : goal.run_on-status-requires-clause-ready
+run_on-status-requires-clause-ready g c = reads_ready c.in-Ok.kept g.D.Desk.tells _ _ c.in-Ok.ensures.holds c.in-Ok.ensures.stands

@@ -1,0 +1,15 @@
+pub mod Answerers
+pub mod LeftAlone
+pub mod Failures
+pub mod FaultCounts
+pub mod Reading
+pub mod AnsweredFrames
+pub mod SaidReplies
+pub mod UnsaidReplies
+pub mod RunStops
+pub mod KnownReplies
+pub mod FollowedFolders
+pub mod Answering
+pub mod Turns
+pub mod Pieces
+pub mod ServedInputs
