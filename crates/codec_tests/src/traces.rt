@@ -1,10 +1,11 @@
 //! Texts that say traces, and tagged replies told as lines.
 
 use crate::checks::are_bytes;
+use frame_lines::DecodeFault;
 use std::alloc::{AllocError, Global};
 use std::process::Abort;
 use std::test::Fail;
-use trace_lines::{ReplyFault, TraceFault, tell_replies, trace};
+use trace_lines::{TraceFault, tell_replies, trace};
 
 // Session 0 is opened by an administrator, sends a frame of 34 bytes and is closed.
 const ANN: [u8; 44] = [
@@ -87,7 +88,7 @@ fn a_long_frame_is_cut_into_pieces(rt: HostRuntime) -> Result<(), Fail> {
     Ok(())
 }
 
-fn reply_words_of(alloc: Global, fault: Option<ReplyFault>) -> Result<String, AllocError> {
+fn reply_words_of(alloc: Global, fault: Option<DecodeFault>) -> Result<String, AllocError> {
     match fault {
         Some(fault) => fault.text(alloc),
         None => Ok(String::new(alloc)),
