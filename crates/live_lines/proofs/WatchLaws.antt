@@ -1,5 +1,5 @@
 -- How the takes of an input that is told as it comes join up.
-use Rattle.std.proofs.Common.{◌≡◌, ℕ, ◌≤◌, List, [], ◌∷◌, ◌++◌, length, take, None, Some, Err, refl, sym, ap, subst, ◌∙◌, append_assoc, append-nil, arith}
+use Rattle.std.proofs.Common.{◌≡◌, ℕ, List, [], ◌∷◌, ◌++◌, length, take, None, Some, Err, refl, sym, ap, subst, ◌∙◌, append_assoc, append-nil, arith}
 use Rattle.std.specs.declared.option.Option.{Option}
 use Rattle.std.specs.List.{AllByRecursion}
 use Rattle.std.proofs.lemmas.List.{append_cancel_right, length-take}
@@ -49,20 +49,18 @@ pub in_time_start : {S D : Type 0} (k : Reading) (left : S → Option (List ℕ)
 in_time_start k left seen e =
     record { starts = []; ends = []; begun = sym (append-nil (starts_of e)); ended = sym (append-nil (ends_of e)); takes = refl; each = tt }
 
-pub in_time_more : {S D : Type 0} (k : Reading) (left : S → Option (List ℕ)) (seen : D → Seen) (before now then : Exchange S D) (end : S × D) → IsInTime k left seen before now
-    → HasSaid k (left (source_of before)) (left (source_of now)) (seen before.desk).said (seen now.desk).said → IsTake left (source_of now, now.desk) end
-    → starts_of then ≡ starts_of now ++ (source_of now, now.desk) ∷ [] → ends_of then ≡ ends_of now ++ end ∷ [] → source_of then ≡ end.0 → IsInTime k left seen before then
-in_time_more k left seen before now then end in_time said taken begins finishes is =
-    let start = (source_of now, now.desk) in
-    record {
-      starts = in_time.starts ++ start ∷ [];
-      ends = in_time.ends ++ end ∷ [];
-      begun = begins ∙ ap (λ ts. ts ++ start ∷ []) in_time.begun ∙ append_assoc (starts_of before) in_time.starts (start ∷ []);
-      ended = finishes ∙ ap (λ ts. ts ++ end ∷ []) in_time.ended ∙ append_assoc (ends_of before) in_time.ends (end ∷ []);
-      takes = subst (λ s. AreAllTakes left (source_of before) (in_time.starts ++ start ∷ []) (in_time.ends ++ end ∷ []) s) (sym is)
-          (takes_more left (source_of before) (source_of now) in_time.starts in_time.ends start end in_time.takes refl taken);
-      each = all_more (λ t. HasSaid k (left (source_of before)) (left t.0) (seen before.desk).said (seen t.1).said) in_time.starts start in_time.each said;
-    }
+pub in_time_more : {S D : Type 0} (k : Reading) (left : S → Option (List ℕ)) (seen : D → Seen) (before now then : Exchange S D) (start end : S × D) → IsInTime k left seen before now
+    → HasSaid k (left (source_of before)) (left start.0) (seen before.desk).said (seen start.1).said → start.0 ≡ source_of now → IsTake left start end
+    → starts_of then ≡ starts_of now ++ start ∷ [] → ends_of then ≡ ends_of now ++ end ∷ [] → source_of then ≡ end.0 → IsInTime k left seen before then
+in_time_more k left seen before now then start end in_time said found taken begins finishes is = record {
+  starts = in_time.starts ++ start ∷ [];
+  ends = in_time.ends ++ end ∷ [];
+  begun = begins ∙ ap (λ ts. ts ++ start ∷ []) in_time.begun ∙ append_assoc (starts_of before) in_time.starts (start ∷ []);
+  ended = finishes ∙ ap (λ ts. ts ++ end ∷ []) in_time.ended ∙ append_assoc (ends_of before) in_time.ends (end ∷ []);
+  takes = subst (λ s. AreAllTakes left (source_of before) (in_time.starts ++ start ∷ []) (in_time.ends ++ end ∷ []) s) (sym is)
+      (takes_more left (source_of before) (source_of now) in_time.starts in_time.ends start end in_time.takes found taken);
+  each = all_more (λ t. HasSaid k (left (source_of before)) (left t.0) (seen before.desk).said (seen t.1).said) in_time.starts start in_time.each said;
+}
 
 -- ---- so far
 
@@ -95,7 +93,7 @@ pub watch_take : {S D K : Type 0} (k : Reading) (left : S → Option (List ℕ))
     → Watches k left seen before now telling → IsTake left (source_of now, now.desk) end → starts_of then ≡ starts_of now ++ (source_of now, now.desk) ∷ []
     → ends_of then ≡ ends_of now ++ end ∷ [] → source_of then ≡ end.0 → IsInTime k left seen before then
 watch_take k left seen before now then end telling w taken begins finishes is =
-    in_time_more k left seen before now then end w.in_time (record { came = w.came; gave = w.gave; lines = w.said }) taken begins finishes is
+    in_time_more k left seen before now then (source_of now, now.desk) end w.in_time (record { came = w.came; gave = w.gave; lines = w.said }) refl taken begins finishes is
 
 -- a piece came, and its lines were said
 pub watch_more : {S D K : Type 0} (k : Reading) (left : S → Option (List ℕ)) (seen : D → Seen) (before now then : Exchange S D) (desk_mid : D) (telling telling_then : LineTelling K) (piece : List ℕ)

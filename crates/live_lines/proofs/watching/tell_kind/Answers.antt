@@ -1,4 +1,4 @@
-use Rattle.std.proofs.Common.{ℕ, List, [], refl, sym, ap, ◌∙◌, take, subst}
+use Rattle.std.proofs.Common.{ℕ, List, [], length, refl, sym, ap, ◌∙◌, take, subst}
 use Rattle.std.proofs.lemmas.Result.{err_from_is_err_and}
 use Rattle.ziti_outside.specs.Causes.{Rose}
 use Rattle.ziti_outside.specs.Told.{Gave}
@@ -11,7 +11,7 @@ pub takes-init : goal.takes-init
 takes-init g c =
     let e = c.args.exchange.now in
     record {
-      room = c.as_mut_slice.ensures.value;
+      room = ap (λ (bytes : List ℕ). length bytes) c.as_mut_slice-piece.ensures.value ∙ c.in_ok-room.ensures;
       watches = watch_start g.K.LineKind.reading c.in_order.ensures g.S.Source.left g.D.Desk.seen e c.new-telling.result c.new-telling.ensures;
       calm = refl;
       calm_say = refl;

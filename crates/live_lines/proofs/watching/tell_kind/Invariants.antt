@@ -6,7 +6,7 @@ use Rattle.live_lines.proofs.watching.tell_kind.Given as goal
 -- what came was told and said, each take found it so, and nothing else changed
 abbrev pub invariant-takes : goal.invariant-takes
 invariant-takes g l = record {
-  room : length l.piece.now ≡ 65536;
+  room : length l.piece ≡ 65536;
   watches : Watches g.K.LineKind.reading g.S.Source.left g.D.Desk.seen l.fn.exchange l.exchange l.telling;
   calm : g.S.Source.faults l.exchange.source ≡ g.S.Source.faults l.fn.exchange.source;
   calm_say : (g.D.Desk.seen l.exchange.desk).say_faults ≡ (g.D.Desk.seen l.fn.exchange.desk).say_faults;
