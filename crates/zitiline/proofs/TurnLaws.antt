@@ -9,6 +9,7 @@ use Rattle.ziti_outside.specs.Views.{Outside, Seen, Stopped}
 use Rattle.ziti_outside.proofs.Moves.{IsFront-none, IsFront-all}
 use Rattle.frame_lines.specs.declared.told.DecodeFault.{DecodeFault}
 use Rattle.frame_lines.specs.FaultTexts.{frame_text}
+use Rattle.frame_lines.specs.LineKinds.{Reading}
 use Rattle.frame_lines.specs.TextTelling.{text_of}
 use Rattle.live_lines.specs.declared.exchanges.Exchange.{Exchange}
 use Rattle.live_lines.specs.Exchanges.{source_of}
@@ -79,6 +80,11 @@ turn_runs outside of before now status answers in_time read caused left =
       found = left.found;
       failed_calls = left.failed_calls;
     }
+
+-- What is said to a desk behind the last take changes nothing of the takes.
+pub still_in_time : {S D : Type 0} (k : Reading) (left : S → Option (List ℕ)) (seen : D → Seen) (before now : Exchange S D) (desk : D) → IsInTime k left seen before now
+    → IsInTime k left seen before (record now { desk = desk })
+still_in_time k left seen before now desk t = record { starts = t.starts; ends = t.ends; begun = t.begun; ended = t.ended; takes = t.takes; each = t.each }
 
 -- ---- an input that is read whole
 
