@@ -1,9 +1,9 @@
 //! Frames told as lines, and lines that say frames. The run of `zitiline` shows where the latter end at a fault.
 
-use crate::checks::are_bytes;
+use crate::checks::{are_bytes, is_told, joined};
 use crate::samples::{ANN, REPLY};
-use frame_lines::{DecodeFault, check, decode, encode};
-use std::alloc::{AllocError, Global};
+use frame_lines::{check, decode, encode};
+use std::alloc::Global;
 use std::process::Abort;
 use std::test::Fail;
 
@@ -24,14 +24,6 @@ const INTERCEPTS: [u8; 88] = [
 const INTERCEPT_LINES: &str =
     "1 SetIntercept {}\n2 ClearIntercept {}\n3 Pick {}\n4 ListClashes {}\n";
 
-// What is said of a fault, and nothing where there is none.
-fn words_of(alloc: Global, fault: Option<DecodeFault>) -> Result<String, AllocError> {
-    match fault {
-        Some(fault) => fault.text(alloc),
-        None => Ok(String::new(alloc)),
-    }
-}
-
 // Two stretches of bytes are told by this text, up to a frame of which that is said.
 fn tells(
     rt: &impl Abort,
@@ -40,13 +32,9 @@ fn tells(
     text: &str,
     words: &str,
 ) -> Result<(), Fail> {
-    let mut bytes = Vec::from_slice(alloc, parts[0])?;
-    bytes.extend_from_slice(parts[1])?;
+    let bytes = joined(alloc, parts)?;
     let decoded = decode(alloc, bytes.as_slice())?;
-    are_bytes(rt, decoded.text.as_slice(), text.as_bytes());
-    let found = words_of(alloc, decoded.fault)?;
-    are_bytes(rt, found.as_bytes(), words.as_bytes());
-    Ok(())
+    is_told(rt, alloc, &decoded, text, words)
 }
 
 #[test]

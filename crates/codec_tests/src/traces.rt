@@ -1,10 +1,10 @@
 //! Texts that say traces, and tagged replies told as lines.
 
-use crate::checks::are_bytes;
+use crate::checks::{are_bytes, is_told, joined};
 use std::alloc::{AllocError, Global};
 use std::process::Abort;
 use std::test::Fail;
-use trace_lines::{ReplyFault, TraceFault, tell_replies, trace};
+use trace_lines::{TraceFault, tell_replies, trace};
 
 // Session 0 is opened by an administrator, sends a frame of 34 bytes and is closed.
 const ANN: [u8; 44] = [
@@ -87,13 +87,6 @@ fn a_long_frame_is_cut_into_pieces(rt: HostRuntime) -> Result<(), Fail> {
     Ok(())
 }
 
-fn reply_words_of(alloc: Global, fault: Option<ReplyFault>) -> Result<String, AllocError> {
-    match fault {
-        Some(fault) => fault.text(alloc),
-        None => Ok(String::new(alloc)),
-    }
-}
-
 // Two stretches of bytes are told by this text, up to a reply of which that is said.
 fn tells(
     rt: &impl Abort,
@@ -102,13 +95,9 @@ fn tells(
     text: &str,
     words: &str,
 ) -> Result<(), Fail> {
-    let mut bytes = Vec::from_slice(alloc, parts[0])?;
-    bytes.extend_from_slice(parts[1])?;
+    let bytes = joined(alloc, parts)?;
     let told = tell_replies(alloc, bytes.as_slice())?;
-    are_bytes(rt, told.text.as_slice(), text.as_bytes());
-    let found = reply_words_of(alloc, told.fault)?;
-    are_bytes(rt, found.as_bytes(), words.as_bytes());
-    Ok(())
+    is_told(rt, alloc, &told, text, words)
 }
 
 #[test]

@@ -1,14 +1,13 @@
 -- What a text says is told in full.
-use Rattle.std.proofs.Common.{◌≡◌, ℕ, ◌+◌, ◌-◌, ◌<◌, ◌≤◌, ◌^◌, ◌&&◌, Bool, true, false, cond, ltb, List, [], ◌∷◌, ◌++◌, length, unwrap_or, None, Some, Ok, Err, refl, sym, ap, ◌∙◌, append_assoc, append-nil, arith}
+use Rattle.std.proofs.Common.{◌≡◌, ℕ, ◌+◌, ◌-◌, ◌<◌, ◌≤◌, ◌^◌, ◌&&◌, Bool, true, false, cond, ltb, List, [], ◌∷◌, ◌++◌, length, map, unwrap_or, None, Some, Ok, Err, refl, sym, ap, ◌∙◌, append_assoc, append-nil, arith}
 use Rattle.std.specs.declared.option.Option.{Option}
 use Rattle.std.specs.declared.result.Result.{Result}
-use Rattle.std.specs.Option.{option_map}
 use Rattle.std.specs.List.{flat_map, AllByRecursion}
 use Rattle.std.specs.Str.Parse.{digits_value}
 use Rattle.std.proofs.lemmas.Bool.{ltb-true, ltb-false}
 use Rattle.channel_frame.specs.declared.frames.Frame.{Frame}
 use Rattle.channel_frame.specs.FrameSpelling.{IsFrame, spelling}
-use Rattle.channel_frame.specs.StreamReading.{front, fault_in, rest_of, Reads}
+use Rattle.channel_frame.specs.StreamReading.{rest_of, Reads}
 use Rattle.channel_frame.proofs.ReadingLaws.{tail_from, has_one_reading}
 use Rattle.frame_lines.specs.declared.lines.Line.{Line}
 use Rattle.frame_lines.specs.declared.lines.LineCause.{LineCause}
@@ -20,8 +19,8 @@ use Rattle.frame_lines.specs.LineWords.{first_word, behind_word, are_digits, is_
 use Rattle.frame_lines.specs.TextLines.{passes, lines_of}
 use Rattle.frame_lines.specs.LineReading.{type_or, type_in, with_type, with_sequence, said_by}
 use Rattle.frame_lines.specs.TextReading.{frame_of, next_after, and_then_frames, frames_from, frames_said, bytes_said}
-use Rattle.frame_lines.specs.FrameLines.{frame_words, body_words}
-use Rattle.frame_lines.specs.TextTelling.{and_then_lines, lines_for, or_untold, untold_from, tail_fault, fault_behind, text_told, fault_told}
+use Rattle.frame_lines.specs.FrameLines.{frame_words, body_words, line_for}
+use Rattle.frame_lines.specs.TextTelling.{and_then_lines, lines_for, or_untold, untold_from, tail_fault, fault_behind, framed, text_told, fault_told}
 use Rattle.frame_lines.specs.FullLines.{full_line, HasToldBody}
 use Rattle.frame_lines.proofs.TypeLaws.{and_right, named_fits}
 use Rattle.frame_lines.proofs.RoundLaws.{full, told_in_full}
@@ -138,15 +137,14 @@ lines_in_full (f ∷ frames) all told =
     ∙ in_full f (lines_for frames) ∙ ap (λ (l : List ℕ). full_line f ++ l) (lines_in_full frames all.1 told.1)
 
 none_untold : (frames : List Frame) (behind : ℕ → Option DecodeFault) (number : ℕ) → AllByRecursion IsSaid frames → AllByRecursion HasToldBody frames
-    → ((n : ℕ) → behind n ≡ None) → untold_from frames behind number ≡ None
+    → ((n : ℕ) → behind n ≡ None) → untold_from (map line_for frames) behind number ≡ None
 none_untold [] behind number all told none = none number
 none_untold (f ∷ frames) behind number all told none =
-    ap (λ (r : Result (List ℕ) TellCause). or_untold number r (untold_from frames behind (number + 1))) (told_in_full f all.0.headers told.0)
+    ap (λ (r : Result (List ℕ) TellCause). or_untold number r (untold_from (map line_for frames) behind (number + 1))) (told_in_full f all.0.headers told.0)
     ∙ none_untold frames behind (number + 1) all.1 told.1 none
 
-nothing_behind : (bytes : List ℕ) (number : ℕ) → rest_of bytes ≡ [] → fault_behind bytes number ≡ None
-nothing_behind bytes number none =
-    ap (λ (r : List ℕ). tail_fault (option_map (λ e. (e, length bytes - length r)) (fault_in (front r))) r (length bytes - length r) number) none
+nothing_behind : (bytes : List ℕ) (number : ℕ) → rest_of bytes ≡ [] → fault_behind framed bytes number ≡ None
+nothing_behind bytes number none = ap (λ (r : List ℕ). tail_fault framed r (length bytes - length r) number) none
 
 pub reads_alone : (frames : List Frame) → AllByRecursion IsFrame frames → Reads (flat_map spelling frames) frames []
 reads_alone frames each = record { text = sym (append-nil (flat_map spelling frames)); each = each; tail = tail_from [] (λ f n e. cc) }
@@ -154,10 +152,11 @@ reads_alone frames each = record { text = sym (append-nil (flat_map spelling fra
 pub lines_back : (text : List ℕ) → AllByRecursion HasToldBody (frames_said text)
     → (text_told (bytes_said text) ≡ flat_map full_line (frames_said text)) × (fault_told (bytes_said text) ≡ None)
 lines_back text told =
-    let frames : List Frame = frames_said text in
-    let all : AllByRecursion IsSaid frames = frames_fit (lines_of text) 1 (omega arith) in
-    let bytes : List ℕ = flat_map spelling frames in
-    let reading = has_one_reading bytes frames [] tt (reads_alone frames (all_frames frames all)) in (
-      ap lines_for reading.0 ∙ lines_in_full frames all told,
-      ap (λ (fs : List Frame). untold_from fs (fault_behind bytes) 1) reading.0 ∙ none_untold frames (fault_behind bytes) 1 all told (λ n. nothing_behind bytes n reading.1),
+    let said : List Frame = frames_said text in
+    let all : AllByRecursion IsSaid said = frames_fit (lines_of text) 1 (omega arith) in
+    let bytes : List ℕ = flat_map spelling said in
+    let reading = has_one_reading bytes said [] tt (reads_alone said (all_frames said all)) in (
+      ap lines_for reading.0 ∙ lines_in_full said all told,
+      ap (λ (fs : List Frame). untold_from (map line_for fs) (fault_behind framed bytes) 1) reading.0
+          ∙ none_untold said (fault_behind framed bytes) 1 all told (λ n. nothing_behind bytes n reading.1),
     )

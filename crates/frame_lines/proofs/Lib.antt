@@ -1,8 +1,8 @@
 pub mod CutLaws
 pub mod NumberLaws
 pub mod TurnLaws
-pub mod FrontLengths
 pub mod TellLaws
+pub mod KindLaws
 pub mod DecodeLaws
 pub mod TypeLaws
 pub mod WordLaws

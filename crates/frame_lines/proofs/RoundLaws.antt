@@ -1,14 +1,15 @@
 -- What was told reads as it was, and what was read is told in full.
-use Rattle.std.proofs.Common.{◌≡◌, ℕ, ◌+◌, ◌-◌, ◌||◌, Bool, true, false, cond, eqb, get_or, List, [], ◌∷◌, ◌++◌, length, codes, decimal, None, Some, Ok, Err, refl, sym, ap, ◌∙◌, append_assoc, append-nil}
+use Rattle.std.proofs.Common.{◌≡◌, ℕ, zero, suc, ◌+◌, ◌-◌, ◌||◌, Bool, true, false, cond, eqb, get_or, List, [], ◌∷◌, ◌++◌, length, map, codes, decimal, None, Some, Ok, Err, refl, sym, ap, ◌∙◌, append_assoc, append-nil}
 use Rattle.std.specs.declared.option.Option.{Option}
 use Rattle.std.specs.declared.result.Result.{Result}
 use Rattle.std.specs.List.{flat_map, list_any, AllByRecursion}
 use Rattle.std.specs.Str.{is_utf8}
 use Rattle.channel_frame.specs.declared.frames.Frame.{Frame}
-use Rattle.channel_frame.specs.declared.frames.FrameFault.{FrameFault}
+use Rattle.channel_frame.specs.declared.frames.Front.{Front}
+use Rattle.channel_frame.specs.declared.frames.Front.TheVariants.{Short, Bad, Whole}
 use Rattle.channel_frame.specs.declared.frames.Header.{Header}
 use Rattle.channel_frame.specs.FrameSpelling.{IsFrame, spelling}
-use Rattle.channel_frame.specs.StreamReading.{AreBytes, frames_of, rest_of, fault_of}
+use Rattle.channel_frame.specs.StreamReading.{AreBytes, front, frames_of, and_then_rest, rest_past, rest_of}
 use Rattle.channel_frame.proofs.ReadingLaws.{has_reading}
 use Rattle.frame_lines.specs.declared.lines.Line.{Line}
 use Rattle.frame_lines.specs.declared.told.TellCause.{TellCause}
@@ -20,7 +21,7 @@ use Rattle.frame_lines.specs.LineCuts.{Lacks}
 use Rattle.frame_lines.specs.LineReading.{said_by}
 use Rattle.frame_lines.specs.TextReading.{frame_of, next_after, frames_from, bytes_said, fault_from, fault_said}
 use Rattle.frame_lines.specs.FrameLines.{words_from, words_for, name_or, frame_words, body_words, body_cause, line_with, line_for}
-use Rattle.frame_lines.specs.TextTelling.{and_then_lines, lines_for, or_untold, untold_from, tail_fault, fault_behind, text_told, fault_told}
+use Rattle.frame_lines.specs.TextTelling.{and_then_lines, lines_for, or_untold, untold_from, line_at, front_fault, tail_fault, fault_behind, framed, text_told, fault_told}
 use Rattle.frame_lines.specs.FullLines.{HasToldBody, HasNoHeaders}
 use Rattle.frame_lines.proofs.TurnLaws.{frames_at, fault_at}
 use Rattle.frame_lines.proofs.WordLaws.{IsTold, IsPlainLine, number_word, type_word, full_says, digit_passes_not, line_alone_in, lacks_both}
@@ -151,11 +152,11 @@ told_one f (Err cause) later number is none = cc
 told_one f (Ok line) later number is none = ((line, is), none)
 
 -- without a fault a line tells each frame, and nothing is wrong behind them
-all_told : (frames : List Frame) (behind : ℕ → Option DecodeFault) (number : ℕ) → untold_from frames behind number ≡ None
+all_told : (frames : List Frame) (behind : ℕ → Option DecodeFault) (number : ℕ) → untold_from (map line_for frames) behind number ≡ None
     → AllByRecursion IsLine frames × ((n : ℕ) × (behind n ≡ None))
 all_told [] behind number none = (tt, (number, none))
 all_told (f ∷ frames) behind number none =
-    let one = told_one f (line_for f) (untold_from frames behind (number + 1)) number refl none in
+    let one = told_one f (line_for f) (untold_from (map line_for frames) behind (number + 1)) number refl none in
     let others = all_told frames behind (number + 1) one.1 in
     ((one.0, others.0), others.1)
 
@@ -176,18 +177,37 @@ all_plain [] frame none told = tt
 all_plain (f ∷ frames) frame none told =
     (record { frame = frame.0; headers = none.0; body = body_told f told.0.0 none.0 told.0.1 }, all_plain frames frame.1 none.1 told.1)
 
-no_rest : (fault : Option (FrameFault × ℕ)) (rest : List ℕ) (before number : ℕ) → tail_fault fault rest before number ≡ None → rest ≡ []
-no_rest (Some fault) rest before number none = cc
-no_rest None [] before number none = refl
-no_rest None (b ∷ rest) before number none = cc
+-- no whole frame stands at the front
+abbrev HasNone : List ℕ → Type 0
+HasNone bytes = (f : Frame) (n : ℕ) → front bytes ≡ Whole f n → ⊥
+
+none_at : (bytes : List ℕ) (x : Front) (rest : ℕ → List ℕ) → front bytes ≡ x → ((n : ℕ) → HasNone (rest n)) → HasNone (and_then_rest bytes x rest)
+none_at bytes Short rest is later f n whole = cc
+none_at bytes (Bad e) rest is later f n whole = cc
+none_at bytes (Whole g m) rest is later f n whole = later (m - 1) f n whole
+
+-- none does at the tail of a reading
+none_past : (bytes : List ℕ) (n : ℕ) → HasNone (rest_past bytes n)
+none_past [] n f m whole = cc
+none_past (b ∷ bytes) (suc n) f m whole = none_past bytes n f m whole
+none_past (b ∷ bytes) zero f m whole = none_at (b ∷ bytes) (front (b ∷ bytes)) (rest_past bytes) refl (λ n g k is. none_past bytes n g k is) f m whole
+
+has_fault : (x : Front) (at number : ℕ) → ((f : Frame) (n : ℕ) → x ≡ Whole f n → ⊥) → front_fault number at (line_at at x) ≡ None → ⊥
+has_fault Short at number none is = cc
+has_fault (Bad e) at number none is = cc
+has_fault (Whole f n) at number none is = none f n refl
+
+no_rest : (rest : List ℕ) (at number : ℕ) → HasNone rest → tail_fault framed rest at number ≡ None → rest ≡ []
+no_rest [] at number none is = refl
+no_rest (b ∷ rest) at number none is = absurd (has_fault (front (b ∷ rest)) at number none is)
 
 pub bytes_back : (bytes : List ℕ) → AreBytes bytes → fault_told bytes ≡ None → AllByRecursion HasNoHeaders (frames_of bytes)
     → (bytes_said (text_told bytes) ≡ bytes) × (fault_said (text_told bytes) ≡ None)
 bytes_back bytes fits none plain =
-    let frames : List Frame = frames_of bytes in
-    let told = all_told frames (fault_behind bytes) 1 none in
-    let rest : rest_of bytes ≡ [] = no_rest (fault_of bytes) (rest_of bytes) (length bytes - length (rest_of bytes)) told.1.0 told.1.1 in
+    let read : List Frame = frames_of bytes in
+    let told = all_told read (fault_behind framed bytes) 1 none in
+    let rest : rest_of bytes ≡ [] = no_rest (rest_of bytes) (length bytes - length (rest_of bytes)) told.1.0 (none_past bytes 0) told.1.1 in
     let reading = has_reading bytes fits in
-    let whole : bytes ≡ flat_map spelling frames = reading.text ∙ ap (λ (r : List ℕ). flat_map spelling frames ++ r) rest ∙ append-nil (flat_map spelling frames) in
-    let back = reads_back frames (all_plain frames reading.each plain told.0) in
+    let whole : bytes ≡ flat_map spelling read = reading.text ∙ ap (λ (r : List ℕ). flat_map spelling read ++ r) rest ∙ append-nil (flat_map spelling read) in
+    let back = reads_back read (all_plain read reading.each plain told.0) in
     (ap (λ (fs : List Frame). flat_map spelling fs) (back.frames_are 1) ∙ sym whole, back.no_fault 1)

@@ -8,7 +8,7 @@ use Rattle.frame_lines.specs.declared.lines.LineFault.{LineFault}
 use Rattle.frame_lines.specs.declared.told.TellCause.{TellCause}
 use Rattle.frame_lines.specs.declared.told.TellCause.TheVariants as tell
 use Rattle.frame_lines.specs.declared.told.DecodeCause.{DecodeCause}
-use Rattle.frame_lines.specs.declared.told.DecodeCause.TheVariants.{Untold, Bad, Unfinished}
+use Rattle.frame_lines.specs.declared.told.DecodeCause.TheVariants.{Untold, Bad, Unfinished, NoTag}
 use Rattle.frame_lines.specs.declared.told.DecodeFault.{DecodeFault}
 
 -- Why a line says no frame.
@@ -40,6 +40,7 @@ abbrev pub decode_words : DecodeCause → List ℕ
 decode_words (Untold cause) = tell_words cause
 decode_words (Bad f at) = fault_word f ++ (codes " at " ++ decimal at)
 decode_words (Unfinished at) = codes "unfinished at " ++ decimal at
+decode_words (NoTag at) = codes "no tag at " ++ decimal at
 
 -- The fault of frames: the frame, and why the telling ended there.
 abbrev pub frame_text : DecodeFault → List ℕ

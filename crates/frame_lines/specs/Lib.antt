@@ -6,6 +6,7 @@ pub mod TextReading
 pub mod LineCuts
 pub mod LineTurns
 pub mod FrameLines
+pub mod LineKinds
 pub mod TextTelling
 pub mod TellingSoFar
 pub mod FrameTurns

@@ -5,6 +5,8 @@ mod checking;
 mod cutting;
 mod decoding;
 mod encoding;
+mod frames;
+mod kinds;
 mod laws;
 mod lines;
 mod nearness;
@@ -17,8 +19,10 @@ mod worked;
 
 pub use checking::{Checked, check};
 pub use cutting::{cut_line, cut_word};
-pub use decoding::{Decoded, FrameTelling, counted_on, decode, past};
+pub use decoding::{Decoded, LineTelling, decode, tell_all};
 pub use encoding::{Encoded, encode, put_frame};
+pub use frames::{Frames, turn_by};
+pub use kinds::{LineKind, Turn};
 pub use laws::{
     each_fault_is_told_by_its_line, faultless_where_each_line_says,
     replies_are_told_by_their_requests, what_is_said_is_told_in_full, what_is_told_is_said_again,

@@ -2,7 +2,7 @@ ghost use Rattle.std.specs.Prelude.{◌≡◌, ◌==◌, ◌++◌, ◌-◌, IfOk
 ghost use Rattle.std.specs.List.{list_any};
 ghost use Rattle.std.specs.Option.{option_map};
 ghost use Rattle.std.specs.String.{string_bytes};
-ghost use Rattle.frame_lines.specs.FrameLines.{is_request, is_success, reply_in, reply_of, reply_words, frame_words, words_for, body_words, body_cause};
+ghost use Rattle.frame_lines.specs.FrameLines.{is_request, is_success, reply_in, reply_of, reply_words, frame_words, words_for, body_words, body_cause, line_for};
 ghost use Rattle.frame_lines.specs.FrameTurns.{PutsLine};
 
 use crate::told::TellCause;
@@ -127,7 +127,7 @@ pub fn put_line(
     out: &mut Vec<u8>,
     frame: &Frame,
 ) -> Result<Result<(), TellCause>, AllocError>
-    ensures { IfOk result (λ put. PutsLine frame.now out.old.items out.new.items put) }
+    ensures { IfOk result (λ put. PutsLine (line_for frame.now) out.old.items out.new.items put) }
 {
     let Some(words) = words_for(alloc, frame)? else {
         return Ok(Err(TellCause::Headers));

@@ -23,10 +23,12 @@ pub enum TellCause {
 pub enum DecodeCause {
     /// No line tells the frame.
     Untold(TellCause),
-    /// The bytes are no frame; the place is that of the frame's first byte.
+    /// The bytes are no frame; the place is that of the frame's first byte, or of its tag.
     Bad(FrameFault, u64),
-    /// The bytes end within a frame, which begins at this place.
+    /// The bytes end within a frame, which begins at this place; that of a tagged reply is the place of its tag.
     Unfinished(u64),
+    /// No tagged reply begins at this place. Frames alone have no tags.
+    NoTag(u64),
 }
 
 /// What ended the telling of frames early: the number of the frame, from 1, and why.
@@ -74,6 +76,7 @@ impl DecodeFault {
                 format!(in alloc; "frame {frame}: {word} at {at}")
             }
             DecodeCause::Unfinished(at) => format!(in alloc; "frame {frame}: unfinished at {at}"),
+            DecodeCause::NoTag(at) => format!(in alloc; "frame {frame}: no tag at {at}"),
         }
     }
 }

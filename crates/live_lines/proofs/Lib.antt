@@ -1,2 +1,1 @@
 pub mod WatchLaws
-pub mod TellingLaws

@@ -8,7 +8,7 @@ mod watching;
 mod worked;
 
 pub use exchanges::Exchange;
-pub use kinds::{Kind, Telling};
+pub use kinds::Kind;
 pub use laws::each_line_comes_in_time;
 pub use watching::{Cut, tell_live};
 pub use worked::worked_pieces;

@@ -1,22 +1,22 @@
 -- Tagged replies read from bytes, and the lines that tell them (docs/FORMATS.md, "Traces and tagged replies", "Lines of traces").
-use Rattle.std.specs.Prelude.{◌≡◌, ℕ, zero, suc, ◌+◌, ◌-◌, ◌==◌, if◌then◌else◌, List, [], ◌∷◌, ◌++◌, length, codes, decimal, None, Some, Ok, Err}
+use Rattle.std.specs.Prelude.{◌≡◌, ℕ, zero, suc, ◌+◌, ◌-◌, ◌==◌, if◌then◌else◌, List, [], ◌∷◌, ◌++◌, map, codes, decimal, Ok, Err}
 use Rattle.std.specs.declared.option.Option.{Option}
 use Rattle.std.specs.declared.result.Result.{Result}
 use Rattle.channel_frame.specs.declared.frames.Frame.{Frame}
-use Rattle.channel_frame.specs.declared.frames.Front.{Front}
+use Rattle.channel_frame.specs.declared.frames.Front as read
 use Rattle.channel_frame.specs.declared.frames.Front.TheVariants as front
 use Rattle.channel_frame.specs.StreamReading.{front}
 use Rattle.frame_lines.specs.declared.told.TellCause.{TellCause}
-use Rattle.frame_lines.specs.declared.told.DecodeCause.TheVariants.{Untold, Bad, Unfinished}
+use Rattle.frame_lines.specs.declared.told.DecodeCause.TheVariants.{Bad, NoTag}
+use Rattle.frame_lines.specs.declared.told.DecodeFault.{DecodeFault}
 use Rattle.frame_lines.specs.FrameLines.{line_for}
-use Rattle.frame_lines.specs.TextTelling.{and_then_lines}
+use Rattle.frame_lines.specs.LineKinds.{Front, Short, Whole, Faulty, Reading}
+use Rattle.frame_lines.specs.TextTelling.{text_of, fault_of}
 use Rattle.trace_lines.specs.declared.fronts.ReplyFront.{ReplyFront}
 use Rattle.trace_lines.specs.declared.fronts.ReplyFront.TheVariants as reply
-use Rattle.trace_lines.specs.declared.replies.ReplyFault.{ReplyFault}
-use Rattle.trace_lines.specs.declared.replies.ReplyFault.TheVariants.{InFrame, NoTag}
 
 -- What stands behind a byte 4 and a session.
-abbrev pub behind_tag : ℕ → Front → ReplyFront
+abbrev pub behind_tag : ℕ → read.Front → ReplyFront
 behind_tag s front.Short = reply.Unfinished
 behind_tag s (front.Bad e) = reply.Faulty e
 behind_tag s (front.Whole f n) = reply.Whole s f (2 + n)
@@ -79,43 +79,21 @@ with_session s (Ok line) = Ok (decimal s ++ (codes " " ++ line))
 abbrev pub reply_line : ℕ × Frame → Result (List ℕ) TellCause
 reply_line r = with_session r.0 (line_for r.1)
 
--- The lines of some replies in order, each with its newline, up to one that no line tells.
-abbrev pub lines_telling : List (ℕ × Frame) → List ℕ
-lines_telling [] = []
-lines_telling (r ∷ rs) = and_then_lines (reply_line r) (lines_telling rs)
+-- What stands at the front of tagged replies that begin at a place, with the line of a reply.
+abbrev pub reply_at : ℕ → ReplyFront → Front
+reply_at at reply.Unfinished = Short
+reply_at at reply.Untagged = Faulty (NoTag at)
+reply_at at (reply.Faulty e) = Faulty (Bad e at)
+reply_at at (reply.Whole s f n) = Whole (reply_line (s, f)) n
+
+-- Bytes read as tagged replies.
+abbrev pub tagged : Reading
+tagged = record { front = λ at bytes. reply_at at (reply_front bytes); lines = λ bytes. map reply_line (replies_of bytes); tail = rest_behind }
 
 -- The text that tells the replies of some bytes.
 abbrev pub replies_told : List ℕ → List ℕ
-replies_told bytes = lines_telling (replies_of bytes)
-
--- ---- the fault
-
--- The fault of a reply that no line tells, with its number, or that of what stands behind it.
-abbrev pub or_untold : ℕ → Result (List ℕ) TellCause → Option ReplyFault → Option ReplyFault
-or_untold number (Err cause) later = Some (InFrame (record { frame = number; cause = Untold cause }))
-or_untold number (Ok line) later = later
-
--- The first of some replies that no line tells, where they are counted from this number; else the fault behind them all.
-abbrev pub untold_from : List (ℕ × Frame) → (ℕ → Option ReplyFault) → ℕ → Option ReplyFault
-untold_from [] behind number = behind number
-untold_from (r ∷ rs) behind number = or_untold number (reply_line r) (untold_from rs behind (number + 1))
-
--- The fault of what stands at a place, which would be that of a reply of this number.
-abbrev pub front_fault : ℕ → ℕ → ReplyFront → Option ReplyFault
-front_fault number at reply.Unfinished = Some (InFrame (record { frame = number; cause = Unfinished at }))
-front_fault number at reply.Untagged = Some (NoTag number at)
-front_fault number at (reply.Faulty e) = Some (InFrame (record { frame = number; cause = Bad e at }))
-front_fault number at (reply.Whole s f n) = None
-
--- The fault of a tail at a place; an empty one has none.
-abbrev pub tail_fault : List ℕ → ℕ → ℕ → Option ReplyFault
-tail_fault [] at number = None
-tail_fault (b ∷ rest) at number = front_fault number at (reply_front (b ∷ rest))
-
--- The fault behind the replies of some bytes. Its place is that of the reply's first byte.
-abbrev pub fault_behind : List ℕ → ℕ → Option ReplyFault
-fault_behind bytes number = tail_fault (rest_behind bytes) (length bytes - length (rest_behind bytes)) number
+replies_told = text_of tagged
 
 -- The fault that ends the text early, if there is one. Replies are counted from 1.
-abbrev pub replies_fault : List ℕ → Option ReplyFault
-replies_fault bytes = untold_from (replies_of bytes) (fault_behind bytes) 1
+abbrev pub replies_fault : List ℕ → Option DecodeFault
+replies_fault = fault_of tagged

@@ -1,11 +1,9 @@
 -- Faults in words (docs/FORMATS.md, "Lines of traces").
 use Rattle.std.specs.Prelude.{ℕ, List, ◌++◌, codes, decimal}
-use Rattle.frame_lines.specs.FaultTexts.{line_words, frame_text}
+use Rattle.frame_lines.specs.FaultTexts.{line_words}
 use Rattle.trace_lines.specs.declared.said.TraceCause.{TraceCause}
 use Rattle.trace_lines.specs.declared.said.TraceCause.TheVariants.{BadSession, BadRole, NoFrame, OpenedBefore, NotOpen}
 use Rattle.trace_lines.specs.declared.said.TraceFault.{TraceFault}
-use Rattle.trace_lines.specs.declared.replies.ReplyFault.{ReplyFault}
-use Rattle.trace_lines.specs.declared.replies.ReplyFault.TheVariants.{InFrame, NoTag}
 
 -- Why a line of a trace is at fault.
 abbrev pub trace_words : TraceCause → List ℕ
@@ -18,8 +16,3 @@ trace_words NotOpen = codes "session not open"
 -- The fault of a text: the line, and why.
 abbrev pub trace_text : TraceFault → List ℕ
 trace_text f = codes "line " ++ (decimal f.line ++ (codes ": " ++ trace_words f.cause))
-
--- The fault of tagged replies: the frame, and why the telling ended there.
-abbrev pub reply_text : ReplyFault → List ℕ
-reply_text (InFrame fault) = frame_text fault
-reply_text (NoTag number at) = codes "frame " ++ (decimal number ++ (codes ": no tag at " ++ decimal at))

@@ -1,18 +1,13 @@
--- What one line of a text, and one reply, does to what was put down, and what a turn over tagged replies does. Only private contracts cite these.
-use Rattle.std.specs.Prelude.{◌≡◌, ℕ, ◌+◌, ◌≤◌, List, [], ◌∷◌, ◌++◌, length, drop, Some, Ok, Err, ⊤}
+-- What one line of a text does to what was put down. Only private contracts cite these.
+use Rattle.std.specs.Prelude.{◌≡◌, ℕ, ◌+◌, ◌≤◌, List, [], ◌∷◌, ◌++◌, length, Some, Ok, Err, ⊤}
 use Rattle.std.specs.declared.result.Result.{Result}
 use Rattle.std.specs.List.{flat_map}
-use Rattle.channel_frame.specs.declared.frames.Frame.{Frame}
-use Rattle.frame_lines.specs.declared.told.TellCause.{TellCause}
 use Rattle.trace_lines.specs.declared.said.Said.{Said}
 use Rattle.trace_lines.specs.declared.said.Said.TheVariants.{Opens, Sends, Closes}
 use Rattle.trace_lines.specs.declared.said.TraceCause.{TraceCause}
 use Rattle.trace_lines.specs.declared.seats.Seat.{Seat}
-use Rattle.trace_lines.specs.declared.telling.Turned.{Turned}
 use Rattle.trace_lines.specs.SessionActs.{Act, turned, acts_from, fault_from}
 use Rattle.trace_lines.specs.ActRecords.{act_bytes}
-use Rattle.trace_lines.specs.TaggedReplies.{reply_line}
-use Rattle.trace_lines.specs.RepliesSoFar as so_far
 use Rattle.channel_frame.specs.FrameSpelling.{longest_body}
 
 -- A frame's body is within its limit.
@@ -41,13 +36,3 @@ pub record EndsAt (seats : List Seat) (line before now : List ℕ) (cause : Trac
 abbrev pub TakesLine : List Seat → List Seat → List ℕ → List ℕ → List ℕ → Result (Unit {0}) TraceCause → Type 0
 TakesLine seats seats_now line before now (Ok _) = GoesOn seats seats_now line before now
 TakesLine seats seats_now line before now (Err cause) = EndsAt seats line before now cause
-
--- A line tells the reply, and was put down with its newline; or none does, and nothing was.
-abbrev pub PutsReply : ℕ × Frame → List ℕ → List ℕ → Result (Unit {0}) TellCause → Type 0
-PutsReply r before now (Ok _) = (line : List ℕ) × (reply_line r ≡ Ok line) × (now ≡ before ++ (line ++ 10 ∷ []))
-PutsReply r before now (Err cause) = (reply_line r ≡ Err cause) × (now ≡ before)
-
--- What a turn over some bytes, whose first reply has this number and stands at this place, did: wherever the telling stood, it goes on with
--- the rest of them or has ended.
-pub record TurnsOn (number at : ℕ) (bytes : List ℕ) (t : Turned) : Type 0 where
-  pub stands : (came text : List ℕ) → so_far.GoesOn came text number at bytes → so_far.StandsAt came (text ++ t.lines) t.number t.at (drop t.used bytes) t.fault

@@ -6,7 +6,6 @@ mod fronts;
 mod laws;
 mod reading;
 mod records;
-mod replies;
 mod said;
 mod seats;
 mod telling;
@@ -15,8 +14,7 @@ mod turning;
 mod worked;
 
 pub use laws::{each_session_sends_its_frames, what_is_traced_reads_back};
-pub use replies::ReplyFault;
 pub use said::{Said, TraceCause, TraceFault, TraceLine};
-pub use telling::{ReplyTelling, ToldReplies, tell_replies};
+pub use telling::{Replies, tell_replies};
 pub use tracing::{Traced, trace};
 pub use worked::{worked_lines, worked_replies, worked_roles, worked_trace};

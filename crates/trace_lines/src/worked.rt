@@ -3,17 +3,17 @@ ghost use Rattle.channel_frame.specs.declared.frames.FrameFault.TheVariants.{Bad
 ghost use Rattle.channel_frame.specs.WorkedFrames.{ann_frame, ann_bytes, reply_bytes, unmarked_bytes, cut_bytes};
 ghost use Rattle.ctrl_model.specs.declared.kinds.Who.TheVariants.{Admin, Router, Identity};
 ghost use Rattle.frame_lines.specs.declared.lines.LineCause.TheVariants.{UnknownType};
-ghost use Rattle.frame_lines.specs.declared.told.DecodeCause.TheVariants.{Bad, Unfinished};
+ghost use Rattle.frame_lines.specs.FaultTexts.{frame_text};
+ghost use Rattle.frame_lines.specs.declared.told.DecodeCause.TheVariants.{Bad, Unfinished, NoTag};
 ghost use Rattle.session_mux.specs.Arrivals.{Open, Data, Close};
 ghost use Rattle.session_mux.specs.WorkedTraces.{one_session};
 ghost use Rattle.trace_lines.specs.declared.said.Said.TheVariants.{Opens, Sends, Closes};
 ghost use Rattle.trace_lines.specs.declared.said.TraceCause.TheVariants.{BadSession, BadRole, NoFrame, OpenedBefore, NotOpen};
-ghost use Rattle.trace_lines.specs.declared.replies.ReplyFault.TheVariants.{InFrame, NoTag};
 ghost use Rattle.trace_lines.specs.TraceWords.{role_in, traced_by};
 ghost use Rattle.trace_lines.specs.SessionActs.{fault_traced};
 ghost use Rattle.trace_lines.specs.ActRecords.{records_said, bytes_traced};
 ghost use Rattle.trace_lines.specs.TaggedReplies.{replies_told, replies_fault};
-ghost use Rattle.trace_lines.specs.TraceTexts.{trace_text, reply_text};
+ghost use Rattle.trace_lines.specs.TraceTexts.{trace_text};
 ghost use Rattle.trace_lines.specs.WorkedTexts.{one_story, nine_lines, nine_traced, reply_of_3};
 
 /// The roles that words say, and words that say none.
@@ -63,11 +63,11 @@ pub fn worked_replies()
     ensures one_fault { replies_fault reply_of_3 ≡ None }
     ensures two { replies_told (reply_of_3 ++ reply_of_3) ≡ codes "3 7 ok {\"no\":1}\n3 7 ok {\"no\":1}\n" }
     ensures untagged { replies_told (reply_of_3 ++ reply_bytes) ≡ codes "3 7 ok {\"no\":1}\n" }
-    ensures untagged_fault { replies_fault (reply_of_3 ++ reply_bytes) ≡ Some (NoTag 2 51) }
-    ensures tag_alone { replies_fault (4 ∷ []) ≡ Some (InFrame (record { frame = 1; cause = Unfinished 0 })) }
-    ensures cut { replies_fault (reply_of_3 ++ (4 ∷ 0 ∷ cut_bytes)) ≡ Some (InFrame (record { frame = 2; cause = Unfinished 51 })) }
-    ensures marker { replies_fault (4 ∷ 0 ∷ unmarked_bytes) ≡ Some (InFrame (record { frame = 1; cause = Bad BadMarker 0 })) }
+    ensures untagged_fault { replies_fault (reply_of_3 ++ reply_bytes) ≡ Some (record { frame = 2; cause = NoTag 51 }) }
+    ensures tag_alone { replies_fault (4 ∷ []) ≡ Some (record { frame = 1; cause = Unfinished 0 }) }
+    ensures cut { replies_fault (reply_of_3 ++ (4 ∷ 0 ∷ cut_bytes)) ≡ Some (record { frame = 2; cause = Unfinished 51 }) }
+    ensures marker { replies_fault (4 ∷ 0 ∷ unmarked_bytes) ≡ Some (record { frame = 1; cause = Bad BadMarker 0 }) }
     ensures none { replies_fault [] ≡ None }
-    ensures words { reply_text (NoTag 2 51) ≡ codes "frame 2: no tag at 51" }
-    ensures frame_words { reply_text (InFrame (record { frame = 2; cause = Unfinished 51 })) ≡ codes "frame 2: unfinished at 51" }
+    ensures words { frame_text (record { frame = 2; cause = NoTag 51 }) ≡ codes "frame 2: no tag at 51" }
+    ensures frame_words { frame_text (record { frame = 2; cause = Unfinished 51 }) ≡ codes "frame 2: unfinished at 51" }
 {}

@@ -10,9 +10,9 @@ use Rattle.ziti_outside.specs.Told.{Took, TookFront}
 use Rattle.ziti_outside.specs.Views.{Seen}
 use Rattle.zitiline.specs.declared.answers.Answer.{Answer}
 use Rattle.zitiline.specs.declared.answers.Fault.{Fault}
-use Rattle.zitiline.specs.declared.answers.Fault.TheVariants.{Reply}
-use Rattle.trace_lines.specs.declared.replies.ReplyFault.{ReplyFault}
-use Rattle.trace_lines.specs.TraceTexts.{reply_text}
+use Rattle.zitiline.specs.declared.answers.Fault.TheVariants.{Frame}
+use Rattle.frame_lines.specs.declared.told.DecodeFault.{DecodeFault}
+use Rattle.frame_lines.specs.FaultTexts.{frame_text}
 use Rattle.zitiline.specs.declared.status.Status.{Status}
 use Rattle.zitiline.specs.declared.status.Status.TheVariants.{Done, BadInput, WriteFault}
 use Rattle.zitiline.specs.declared.words.Whole.{Whole}
@@ -79,7 +79,7 @@ noted_cut a status old mid new ends q r noted =
     subst (λ (s : Status). NotesLines (answer_notes a s) old new) (sym ends) (notes_from (notes_of None WriteFault) old mid new q r noted)
 
 -- The fault of an input that was told as it came, noted.
-pub ends_noted : (fault : Option ReplyFault) (told : Option Fault) (note : Option (List ℕ)) (old new : Seen) (status : Status) → told ≡ option_map Reply fault
+pub ends_noted : (fault : Option DecodeFault) (told : Option Fault) (note : Option (List ℕ)) (old new : Seen) (status : Status) → told ≡ option_map Frame fault
     → note ≡ option_map (λ f. note_of (fault_text f)) told → status ≡ status_for note → NotesLines (note_bytes note) old new → EndsTold fault old new status
 ends_noted None told note old new status is same ends noted =
     let none : note ≡ None = same ∙ ap (option_map (λ (f : Fault). note_of (fault_text f))) is in
@@ -89,9 +89,9 @@ ends_noted None told note old new status is same ends noted =
       notes = subst (λ (s : Status). NotesLines (notes_of None s) old new) (sym done) (subst (λ (n : Option (List ℕ)). NotesLines (note_bytes n) old new) none noted);
     }
 ends_noted (Some f) told note old new status is same ends noted =
-    let some : note ≡ Some (note_of (reply_text f)) = same ∙ ap (option_map (λ (g : Fault). note_of (fault_text g))) is in
+    let some : note ≡ Some (note_of (frame_text f)) = same ∙ ap (option_map (λ (g : Fault). note_of (fault_text g))) is in
     let bad : status ≡ BadInput = ends ∙ ap status_for some in
     record {
       ends = inr bad;
-      notes = subst (λ (s : Status). NotesLines (notes_of (Some (reply_text f)) s) old new) (sym bad) (subst (λ (n : Option (List ℕ)). NotesLines (note_bytes n) old new) some noted);
+      notes = subst (λ (s : Status). NotesLines (notes_of (Some (frame_text f)) s) old new) (sym bad) (subst (λ (n : Option (List ℕ)). NotesLines (note_bytes n) old new) some noted);
     }

@@ -1,9 +1,11 @@
 -- What saying a page did.
-use Rattle.std.proofs.Common.{◌≡◌, ℕ, List, None, Some, refl, sym, subst}
+use Rattle.std.proofs.Common.{◌≡◌, ℕ, List, None, Some, sym, ap, subst}
 use Rattle.std.specs.declared.option.Option.{Option}
 use Rattle.ziti_outside.specs.Told.{Took, TookFront}
 use Rattle.ziti_outside.specs.Views.{Outside, Seen}
 use Rattle.zitiline.specs.declared.words.Page.{Page}
+use Rattle.live_lines.specs.declared.exchanges.Exchange.{Exchange}
+use Rattle.live_lines.specs.Exchanges.{source_of}
 use Rattle.live_lines.specs.declared.kinds.Kind.{Kind}
 use Rattle.zitiline.specs.declared.words.Asked.TheVariants.{Turn, Tell}
 use Rattle.zitiline.specs.declared.words.Form.TheVariants as form
@@ -35,44 +37,44 @@ same_page : (page other : Page) → Some (Tell page) ≡ Some (Tell other) → p
 same_page page other is = cc
 
 -- A run that was asked for a page, by how it ended.
-pub page_runs : {S D : Type 0} (outside : Outside S D) (page : Page) (source : S) (old new : D) (takes : List (S × D)) (status : Status) → TellsPage page (outside.seen old) (outside.seen new) status
-    → IsWriteCaused (outside.seen old).say_faults (outside.seen new).say_faults status → LeavesFolder outside.seen outside.stopped old new
-    → Runs outside (Some (Tell page)) source source old new takes takes status
-page_runs outside page source old new takes Done told caused left = record {
+pub page_runs : {S D : Type 0} (outside : Outside S D) (page : Page) (before now : Exchange S D) (status : Status) → source_of now ≡ source_of before → TellsPage page (outside.seen before.desk) (outside.seen now.desk) status
+    → IsWriteCaused (outside.seen before.desk).say_faults (outside.seen now.desk).say_faults status → LeavesFolder outside.seen outside.stopped before.desk now.desk
+    → Runs outside (Some (Tell page)) before now status
+page_runs outside page before now Done same told caused left = record {
   usage = ((λ (e : Done ≡ Usage). absurd cc), (λ (e : Some (Tell page) ≡ None). absurd cc));
-  usage_takes_nothing = λ e. refl;
+  usage_takes_nothing = λ e. same;
   usage_says_nothing = λ (e : Some (Tell page) ≡ None). absurd cc;
   usage_note = λ (e : Some (Tell page) ≡ None). absurd cc;
-  page_takes_nothing = λ other e. refl;
-  pages = λ other e. subst (λ (p : Page). TellsPage p (outside.seen old) (outside.seen new) Done) (same_page page other e) told;
+  page_takes_nothing = λ other e. same;
+  pages = λ other e. subst (λ (p : Page). TellsPage p (outside.seen before.desk) (outside.seen now.desk) Done) (same_page page other e) told;
   answers = λ of (e : Some (Tell page) ≡ Some (Turn of)). absurd cc;
   in_time = λ (kind : Kind) (e : Some (Tell page) ≡ Some (Turn (form.Live kind))). absurd cc;
   read_fault = λ (e : Done ≡ ReadFault). absurd cc;
-  no_read_fault = λ none. refl;
+  no_read_fault = λ none. ap outside.faults same;
   write_fault = λ (e : Done ≡ WriteFault). absurd cc;
   no_write_fault = caused.calm;
   parts = left.parts;
   found = left.found;
   failed_calls = left.failed_calls;
 }
-page_runs outside page source old new takes Usage told caused left = absurd told.says
-page_runs outside page source old new takes BadInput told caused left = absurd told.says
-page_runs outside page source old new takes ReadFault told caused left = absurd told.says
-page_runs outside page source old new takes WriteFault told caused left = record {
+page_runs outside page before now Usage same told caused left = absurd told.says
+page_runs outside page before now BadInput same told caused left = absurd told.says
+page_runs outside page before now ReadFault same told caused left = absurd told.says
+page_runs outside page before now WriteFault same told caused left = record {
   usage = ((λ (e : WriteFault ≡ Usage). absurd cc), (λ (e : Some (Tell page) ≡ None). absurd cc));
-  usage_takes_nothing = λ e. refl;
+  usage_takes_nothing = λ e. same;
   usage_says_nothing = λ (e : Some (Tell page) ≡ None). absurd cc;
   usage_note = λ (e : Some (Tell page) ≡ None). absurd cc;
-  page_takes_nothing = λ other e. refl;
-  pages = λ other e. subst (λ (p : Page). TellsPage p (outside.seen old) (outside.seen new) WriteFault) (same_page page other e) told;
+  page_takes_nothing = λ other e. same;
+  pages = λ other e. subst (λ (p : Page). TellsPage p (outside.seen before.desk) (outside.seen now.desk) WriteFault) (same_page page other e) told;
   answers = λ of (e : Some (Tell page) ≡ Some (Turn of)). absurd cc;
   in_time = λ (kind : Kind) (e : Some (Tell page) ≡ Some (Turn (form.Live kind))). absurd cc;
   read_fault = λ (e : WriteFault ≡ ReadFault). absurd cc;
-  no_read_fault = λ none. refl;
+  no_read_fault = λ none. ap outside.faults same;
   write_fault = caused.rose;
   no_write_fault = caused.calm;
   parts = left.parts;
   found = left.found;
   failed_calls = left.failed_calls;
 }
-page_runs outside page source old new takes NoMemory told caused left = absurd told.says
+page_runs outside page before now NoMemory same told caused left = absurd told.says

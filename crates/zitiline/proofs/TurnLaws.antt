@@ -7,12 +7,16 @@ use Rattle.ziti_outside.specs.Told.{Took}
 use Rattle.ziti_outside.specs.Untouched.{OnlySays, OnlyNotes}
 use Rattle.ziti_outside.specs.Views.{Outside, Seen, Stopped}
 use Rattle.ziti_outside.proofs.Moves.{IsFront-none, IsFront-all}
-use Rattle.trace_lines.specs.declared.replies.ReplyFault.{ReplyFault}
-use Rattle.trace_lines.specs.TraceTexts.{reply_text}
+use Rattle.frame_lines.specs.declared.told.DecodeFault.{DecodeFault}
+use Rattle.frame_lines.specs.FaultTexts.{frame_text}
+use Rattle.frame_lines.specs.LineKinds.{Reading}
+use Rattle.frame_lines.specs.TextTelling.{text_of}
+use Rattle.live_lines.specs.declared.exchanges.Exchange.{Exchange}
+use Rattle.live_lines.specs.Exchanges.{source_of}
 use Rattle.live_lines.specs.declared.kinds.Kind.{Kind}
 use Rattle.live_lines.specs.declared.watching.Cut.{Cut}
 use Rattle.live_lines.specs.declared.watching.Cut.TheVariants as cut
-use Rattle.live_lines.specs.LiveLines.{text_of}
+use Rattle.live_lines.specs.LiveLines.{reading_of}
 use Rattle.live_lines.specs.InTime.{IsInTime}
 use Rattle.live_lines.specs.LiveTellings.{TellsAll, TellsSome, FailsToTake, FailsToSay}
 use Rattle.zitiline.specs.declared.words.Page.{Page}
@@ -46,34 +50,41 @@ same_form : (of other : Form) → Some (Turn of) ≡ Some (Turn other) → of �
 same_form of other is = cc
 
 -- A run that was asked for what is said of an input.
-pub turn_runs : {S D : Type 0} (outside : Outside S D) (of : Form) (source source_now : S) (desk desk_now : D) (takes takes_now : List (S × D)) (status : Status)
-    → Answers of (outside.left source) (outside.left source_now) (outside.seen desk) (outside.seen desk_now) status
-    → ((kind : Kind) → of ≡ form.Live kind → IsInTime kind outside.left outside.seen source desk takes takes_now)
-    → IsReadCaused (outside.faults source) (outside.faults source_now) status
-    → IsWriteCaused (outside.seen desk).say_faults (outside.seen desk_now).say_faults status
-    → LeavesFolder outside.seen outside.stopped desk desk_now
-    → Runs outside (Some (Turn of)) source source_now desk desk_now takes takes_now status
-turn_runs outside of source source_now desk desk_now takes takes_now status answers in_time read caused left = record {
-  usage = (
-    (λ (e : status ≡ Usage). absurd (no_usage of (outside.left source) (outside.left source_now) (outside.seen desk) (outside.seen desk_now) status answers e)),
-    (λ (e : Some (Turn of) ≡ None). absurd cc),
-  );
-  usage_takes_nothing = λ (e : Some (Turn of) ≡ None). absurd cc;
-  usage_says_nothing = λ (e : Some (Turn of) ≡ None). absurd cc;
-  usage_note = λ (e : Some (Turn of) ≡ None). absurd cc;
-  page_takes_nothing = λ (page : Page) (e : Some (Turn of) ≡ Some (Tell page)). absurd cc;
-  pages = λ (page : Page) (e : Some (Turn of) ≡ Some (Tell page)). absurd cc;
-  answers = λ other e.
-      subst (λ (f : Form). Answers f (outside.left source) (outside.left source_now) (outside.seen desk) (outside.seen desk_now) status) (same_form of other e) answers;
-  in_time = λ kind e. in_time kind (same_form of (form.Live kind) e);
-  read_fault = read.rose;
-  no_read_fault = read.calm;
-  write_fault = caused.rose;
-  no_write_fault = caused.calm;
-  parts = left.parts;
-  found = left.found;
-  failed_calls = left.failed_calls;
-}
+pub turn_runs : {S D : Type 0} (outside : Outside S D) (of : Form) (before now : Exchange S D) (status : Status)
+    → Answers of (outside.left (source_of before)) (outside.left (source_of now)) (outside.seen before.desk) (outside.seen now.desk) status
+    → ((kind : Kind) → of ≡ form.Live kind → IsInTime (reading_of kind) outside.left outside.seen before now)
+    → IsReadCaused (outside.faults (source_of before)) (outside.faults (source_of now)) status
+    → IsWriteCaused (outside.seen before.desk).say_faults (outside.seen now.desk).say_faults status
+    → LeavesFolder outside.seen outside.stopped before.desk now.desk
+    → Runs outside (Some (Turn of)) before now status
+turn_runs outside of before now status answers in_time read caused left =
+    let AnswersOf : Form → Type 0 = λ f. Answers f (outside.left (source_of before)) (outside.left (source_of now)) (outside.seen before.desk) (outside.seen now.desk) status in
+    record {
+      usage = (
+        (λ (e : status ≡ Usage).
+            absurd (no_usage of (outside.left (source_of before)) (outside.left (source_of now)) (outside.seen before.desk) (outside.seen now.desk) status answers e)),
+        (λ (e : Some (Turn of) ≡ None). absurd cc),
+      );
+      usage_takes_nothing = λ (e : Some (Turn of) ≡ None). absurd cc;
+      usage_says_nothing = λ (e : Some (Turn of) ≡ None). absurd cc;
+      usage_note = λ (e : Some (Turn of) ≡ None). absurd cc;
+      page_takes_nothing = λ (page : Page) (e : Some (Turn of) ≡ Some (Tell page)). absurd cc;
+      pages = λ (page : Page) (e : Some (Turn of) ≡ Some (Tell page)). absurd cc;
+      answers = λ other e. subst AnswersOf (same_form of other e) answers;
+      in_time = λ kind e. in_time kind (same_form of (form.Live kind) e);
+      read_fault = read.rose;
+      no_read_fault = read.calm;
+      write_fault = caused.rose;
+      no_write_fault = caused.calm;
+      parts = left.parts;
+      found = left.found;
+      failed_calls = left.failed_calls;
+    }
+
+-- What is said to a desk behind the last take changes nothing of the takes.
+pub still_in_time : {S D : Type 0} (k : Reading) (left : S → Option (List ℕ)) (seen : D → Seen) (before now : Exchange S D) (desk : D) → IsInTime k left seen before now
+    → IsInTime k left seen before (record now { desk = desk })
+still_in_time k left seen before now desk t = record { starts = t.starts; ends = t.ends; begun = t.begun; ended = t.ended; takes = t.takes; each = t.each }
 
 -- ---- an input that is read whole
 
@@ -142,23 +153,23 @@ no_write : (fault : Option (List ℕ)) (status : Status) → (status ≡ NoMemor
 no_write fault status (inl none) is = cc
 no_write fault status (inr ends) is = decided_said fault (sym ends ∙ is)
 
-pub ended_read : (fault : Option ReplyFault) (before now : ℕ) (old new : Seen) (status : Status) → now ≡ before → EndsTold fault old new status → IsReadCaused before now status
-ended_read fault before now old new status same ends = record { calm = λ other. same; rose = λ is. absurd (no_read (option_map reply_text fault) status ends.ends is) }
+pub ended_read : (fault : Option DecodeFault) (before now : ℕ) (old new : Seen) (status : Status) → now ≡ before → EndsTold fault old new status → IsReadCaused before now status
+ended_read fault before now old new status same ends = record { calm = λ other. same; rose = λ is. absurd (no_read (option_map frame_text fault) status ends.ends is) }
 
-pub ended_write : (fault : Option ReplyFault) (before now : ℕ) (old new : Seen) (status : Status) → now ≡ before → EndsTold fault old new status → IsWriteCaused before now status
-ended_write fault before now old new status same ends = record { calm = λ other. same; rose = λ is. absurd (no_write (option_map reply_text fault) status ends.ends is) }
+pub ended_write : (fault : Option DecodeFault) (before now : ℕ) (old new : Seen) (status : Status) → now ≡ before → EndsTold fault old new status → IsWriteCaused before now status
+ended_write fault before now old new status same ends = record { calm = λ other. same; rose = λ is. absurd (no_write (option_map frame_text fault) status ends.ends is) }
 
-pub told_read : (c : Cut) (before now : ℕ) (status : Status) → status ≡ told_status c → FailsToTake {T = Option ReplyFault} before now (Err c) → IsReadCaused before now status
+pub told_read : (c : Cut) (before now : ℕ) (status : Status) → status ≡ told_status c → FailsToTake {T = Option DecodeFault} before now (Err c) → IsReadCaused before now status
 told_read cut.NoMemory before now status is same = record { calm = λ other. same; rose = λ e. cc }
 told_read cut.Unread before now status is rose = record { calm = λ other. absurd (other is); rose = λ e. rose }
 told_read cut.Unsaid before now status is same = record { calm = λ other. same; rose = λ e. cc }
 
-told_said : (c : Cut) (before mid : ℕ) (status : Status) → status ≡ told_status c → FailsToSay {T = Option ReplyFault} before mid (Err c) → IsWriteCaused before mid status
+told_said : (c : Cut) (before mid : ℕ) (status : Status) → status ≡ told_status c → FailsToSay {T = Option DecodeFault} before mid (Err c) → IsWriteCaused before mid status
 told_said cut.NoMemory before mid status is same = record { calm = λ other. same; rose = λ e. cc }
 told_said cut.Unread before mid status is same = record { calm = λ other. same; rose = λ e. cc }
 told_said cut.Unsaid before mid status is rose = record { calm = λ other. absurd (other is); rose = λ e. rose }
 
-pub told_write : (c : Cut) (before mid now : ℕ) (status : Status) → status ≡ told_status c → FailsToSay {T = Option ReplyFault} before mid (Err c) → now ≡ mid
+pub told_write : (c : Cut) (before mid now : ℕ) (status : Status) → status ≡ told_status c → FailsToSay {T = Option DecodeFault} before mid (Err c) → now ≡ mid
     → IsWriteCaused before now status
 told_write c before mid now status is fails same = subst (λ (n : ℕ). IsWriteCaused before n status) (sym same) (told_said c before mid status is fails)
 
@@ -174,31 +185,31 @@ said_folder old mid new says notes = record {
 
 -- ---- an input that is told as it comes
 
-says_told : (kind : Kind) (input : List ℕ) (left before now : Option (List ℕ)) (fault : Option (List ℕ)) (status : Status) → IsAtEnd left → Took before now (text_of kind input)
+says_told : (kind : Kind) (input : List ℕ) (left before now : Option (List ℕ)) (fault : Option (List ℕ)) (status : Status) → IsAtEnd left → Took before now (text_of (reading_of kind) input)
     → fault ≡ fault_of (form.Live kind) input → status ≡ status_for fault → Says status (form.Live kind) input left before now
 says_told kind input left before now None status end took same is =
     subst (λ (s : Status). Says s (form.Live kind) input left before now) (sym is) (end, took, ap status_for (sym same))
 says_told kind input left before now (Some text) status end took same is =
     subst (λ (s : Status). Says s (form.Live kind) input left before now) (sym is) (end, took, ap status_for (sym same))
 
-ends_told : (kind : Kind) (input : List ℕ) (left before now : Option (List ℕ)) (fault : Option (List ℕ)) (status : Status) → IsAtEnd left → Took before now (text_of kind input)
+ends_told : (kind : Kind) (input : List ℕ) (left before now : Option (List ℕ)) (fault : Option (List ℕ)) (status : Status) → IsAtEnd left → Took before now (text_of (reading_of kind) input)
     → fault ≡ fault_of (form.Live kind) input → (status ≡ NoMemory) ⊎ (status ≡ status_for fault) → Says status (form.Live kind) input left before now
 ends_told kind input left before now fault status end took same (inl is) =
     subst (λ (s : Status). Says s (form.Live kind) input left before now) (sym is) (input, IsFront-all input, took)
 ends_told kind input left before now fault status end took same (inr is) = says_told kind input left before now fault status end took same is
 
 -- It was told to its end.
-pub live_answers : (kind : Kind) (fault : Option ReplyFault) (left left_now : Option (List ℕ)) (before mid now : Seen) (status : Status)
-    → TellsAll kind left left_now before.said mid.said fault → mid.noted ≡ before.noted → mid.note_faults ≡ before.note_faults → now.said ≡ mid.said → EndsTold fault mid now status
+pub live_answers : (kind : Kind) (fault : Option DecodeFault) (left left_now : Option (List ℕ)) (before mid now : Seen) (status : Status)
+    → TellsAll (reading_of kind) left left_now before.said mid.said fault → mid.noted ≡ before.noted → mid.note_faults ≡ before.note_faults → now.said ≡ mid.said → EndsTold fault mid now status
     → Answers (form.Live kind) left left_now before now status
 live_answers kind fault left left_now before mid now status told q r same ended =
-    let is : option_map reply_text fault ≡ fault_of (form.Live kind) told.input = ap (option_map reply_text) told.is_fault in
+    let is : option_map frame_text fault ≡ fault_of (form.Live kind) told.input = ap (option_map frame_text) told.is_fault in
     record {
       input = told.input;
       gave = told.gave;
-      says = ends_told kind told.input left_now before.said now.said (option_map reply_text fault) status told.end
-          (subst (λ (s : Option (List ℕ)). Took before.said s (text_of kind told.input)) (sym same) told.lines) is ended.ends;
-      notes = subst (λ (f : Option (List ℕ)). NotesLines (notes_of f status) before now) is (notes_from (notes_of (option_map reply_text fault) status) before mid now q r ended.notes);
+      says = ends_told kind told.input left_now before.said now.said (option_map frame_text fault) status told.end
+          (subst (λ (s : Option (List ℕ)). Took before.said s (text_of (reading_of kind) told.input)) (sym same) told.lines) is ended.ends;
+      notes = subst (λ (f : Option (List ℕ)). NotesLines (notes_of f status) before now) is (notes_from (notes_of (option_map frame_text fault) status) before mid now q r ended.notes);
     }
 
 cut_notes : (c : Cut) (fault : Option (List ℕ)) → notes_of None (told_status c) ≡ notes_of fault (told_status c)
@@ -206,7 +217,7 @@ cut_notes cut.NoMemory fault = refl
 cut_notes cut.Unread fault = refl
 cut_notes cut.Unsaid fault = refl
 
-cut_says : (c : Cut) (kind : Kind) (left left_now before now : Option (List ℕ)) → (some : TellsSome c kind left left_now before now)
+cut_says : (c : Cut) (kind : Kind) (left left_now before now : Option (List ℕ)) → (some : TellsSome c (reading_of kind) left left_now before now)
     → Says (told_status c) (form.Live kind) some.came left_now before now
 cut_says cut.NoMemory kind left left_now before now some = some.says
 cut_says cut.Unread kind left left_now before now some = some.says
@@ -214,10 +225,10 @@ cut_says cut.Unsaid kind left left_now before now some = (tt, some.says)
 
 -- It was cut short.
 pub cut_answers : (c : Cut) (kind : Kind) (left left_now : Option (List ℕ)) (before mid now : Seen) (status : Status)
-    → TellsSome c kind left left_now before.said mid.said → mid.noted ≡ before.noted → mid.note_faults ≡ before.note_faults → now.said ≡ mid.said
+    → TellsSome c (reading_of kind) left left_now before.said mid.said → mid.noted ≡ before.noted → mid.note_faults ≡ before.note_faults → now.said ≡ mid.said
     → status ≡ told_status c → NotesLines (notes_of None (told_status c)) mid now → Answers (form.Live kind) left left_now before now status
 cut_answers c kind left left_now before mid now status some q r same is notes =
-    let here = subst (λ (s : Option (List ℕ)). TellsSome c kind left left_now before.said s) (sym same) some in
+    let here = subst (λ (s : Option (List ℕ)). TellsSome c (reading_of kind) left left_now before.said s) (sym same) some in
     subst (λ (s : Status). Answers (form.Live kind) left left_now before now s) (sym is)
     (record {
       input = here.came;

@@ -4,11 +4,12 @@ use Rattle.std.specs.declared.option.Option.{Option}
 use Rattle.std.specs.Option.{option_map}
 use Rattle.frame_lines.specs.TextReading.{bytes_said, fault_said}
 use Rattle.frame_lines.specs.TextFaults.{faults_told}
-use Rattle.frame_lines.specs.FaultTexts.{line_text}
+use Rattle.frame_lines.specs.FaultTexts.{line_text, frame_text}
 use Rattle.trace_lines.specs.SessionActs.{fault_traced}
 use Rattle.trace_lines.specs.ActRecords.{bytes_traced}
-use Rattle.trace_lines.specs.TraceTexts.{trace_text, reply_text}
-use Rattle.live_lines.specs.LiveLines as live
+use Rattle.trace_lines.specs.TraceTexts.{trace_text}
+use Rattle.frame_lines.specs.TextTelling as told
+use Rattle.live_lines.specs.LiveLines.{reading_of}
 use Rattle.zitiline.specs.declared.words.Form.{Form}
 use Rattle.zitiline.specs.declared.words.Form.TheVariants.{Whole, Live}
 use Rattle.zitiline.specs.declared.words.Whole.TheVariants.{Encode, Trace, Check}
@@ -21,14 +22,14 @@ abbrev pub said_of : Form → List ℕ → List ℕ
 said_of (Whole Encode) input = bytes_said input
 said_of (Whole Trace) input = bytes_traced input
 said_of (Whole Check) input = faults_told input
-said_of (Live kind) input = live.text_of kind input
+said_of (Live kind) input = told.text_of (reading_of kind) input
 
 -- The fault in words, if the input has one. A text that is checked has the one at which its encoding ends.
 abbrev pub fault_of : Form → List ℕ → Option (List ℕ)
 fault_of (Whole Encode) input = option_map line_text (fault_said input)
 fault_of (Whole Trace) input = option_map trace_text (fault_traced input)
 fault_of (Whole Check) input = option_map line_text (fault_said input)
-fault_of (Live kind) input = option_map reply_text (live.fault_of kind input)
+fault_of (Live kind) input = option_map frame_text (told.fault_of (reading_of kind) input)
 
 -- The status that a fault decides.
 abbrev pub status_for : Option (List ℕ) → Status

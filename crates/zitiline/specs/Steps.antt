@@ -7,9 +7,9 @@ use Rattle.ziti_outside.specs.Told.{Took, TookFront}
 use Rattle.ziti_outside.specs.Causes.{Rose}
 use Rattle.ziti_outside.specs.Images.{Image}
 use Rattle.ziti_outside.specs.Views.{Seen, Stopped}
-use Rattle.frame_lines.specs.FaultTexts.{line_text}
-use Rattle.trace_lines.specs.declared.replies.ReplyFault.{ReplyFault}
-use Rattle.trace_lines.specs.TraceTexts.{trace_text, reply_text}
+use Rattle.frame_lines.specs.declared.told.DecodeFault.{DecodeFault}
+use Rattle.frame_lines.specs.FaultTexts.{line_text, frame_text}
+use Rattle.trace_lines.specs.TraceTexts.{trace_text}
 use Rattle.zitiline.specs.declared.words.Whole.{Whole}
 use Rattle.zitiline.specs.declared.words.Form.TheVariants as form
 use Rattle.live_lines.specs.declared.watching.Cut as telling
@@ -18,7 +18,7 @@ use Rattle.zitiline.specs.declared.intake.Cut as taking
 use Rattle.zitiline.specs.declared.intake.Cut.TheVariants as taken
 use Rattle.zitiline.specs.declared.answers.Answer.{Answer}
 use Rattle.zitiline.specs.declared.answers.Fault.{Fault}
-use Rattle.zitiline.specs.declared.answers.Fault.TheVariants.{Line, Trace, Reply}
+use Rattle.zitiline.specs.declared.answers.Fault.TheVariants.{Line, Trace, Frame}
 use Rattle.zitiline.specs.declared.status.Status.{Status}
 use Rattle.zitiline.specs.declared.status.Status.TheVariants.{Done, Usage, BadInput, ReadFault, WriteFault, NoMemory}
 use Rattle.zitiline.specs.Answers.{said_of, fault_of, status_for, status_of}
@@ -28,7 +28,7 @@ use Rattle.zitiline.specs.Notes.{fault_note, notes_of, NotesLines}
 abbrev pub fault_text : Fault → List ℕ
 fault_text (Line f) = line_text f
 fault_text (Trace f) = trace_text f
-fault_text (Reply f) = reply_text f
+fault_text (Frame f) = frame_text f
 
 -- The bytes of a note that may be missing.
 abbrev pub note_bytes : Option (List ℕ) → List ℕ
@@ -64,9 +64,9 @@ SaysInput WriteFault w input before now = TookFront before now (said_of (form.Wh
 SaysInput NoMemory w input before now = now ≡ before
 
 -- How an input that was told as it came ends, whose fault is this one or none: as the fault decides and with its note, or without memory.
-pub record EndsTold (fault : Option ReplyFault) (before now : Seen) (status : Status) : Type 0 where
-  pub ends : (status ≡ NoMemory) ⊎ (status ≡ status_for (option_map reply_text fault))
-  pub notes : NotesLines (notes_of (option_map reply_text fault) status) before now
+pub record EndsTold (fault : Option DecodeFault) (before now : Seen) (status : Status) : Type 0 where
+  pub ends : (status ≡ NoMemory) ⊎ (status ≡ status_for (option_map frame_text fault))
+  pub notes : NotesLines (notes_of (option_map frame_text fault) status) before now
 
 -- The notes of an answer that was said, at a status.
 abbrev pub answer_notes : Answer → Status → List ℕ

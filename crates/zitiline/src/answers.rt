@@ -7,9 +7,9 @@ ghost use Rattle.zitiline.specs.Steps.{IsAnswer, fault_text, note_in};
 use crate::notes::fault_note;
 use crate::words::Whole;
 use ctrl_model::Bytes;
-use frame_lines::{LineFault, check, encode};
+use frame_lines::{DecodeFault, LineFault, check, encode};
 use std::alloc::{AllocError, Global};
-use trace_lines::{ReplyFault, TraceFault, trace};
+use trace_lines::{TraceFault, trace};
 
 /// What is said of an input, and the note of its fault, if it has one.
 #[derive(Drop)]
@@ -23,7 +23,7 @@ pub struct Answer {
 pub enum Fault {
     Line(LineFault),
     Trace(TraceFault),
-    Reply(ReplyFault),
+    Frame(DecodeFault),
 }
 
 fn text_of(alloc: Global, fault: &Fault) -> Result<String, AllocError>
@@ -32,7 +32,7 @@ fn text_of(alloc: Global, fault: &Fault) -> Result<String, AllocError>
     match fault {
         Fault::Line(fault) => fault.text(alloc),
         Fault::Trace(fault) => fault.text(alloc),
-        Fault::Reply(fault) => fault.text(alloc),
+        Fault::Frame(fault) => fault.text(alloc),
     }
 }
 

@@ -15,7 +15,6 @@ ghost use Rattle.std.specs.Prelude.{◌≡◌, ◌≢◌, None, IfOk, IfErr, map
 ghost use Rattle.std.specs.Process.{exit_status};
 ghost use Rattle.std.specs.IoError.{error_kind};
 ghost use Rattle.std.specs.String.{string_bytes};
-ghost use Rattle.live_lines.specs.Exchanges.{source_of, takes_of};
 ghost use Rattle.zitiline.specs.Words.{asked_of};
 ghost use Rattle.zitiline.specs.Headline.{Runs};
 ghost use Rattle.zitiline.specs.Statuses.{number_of};
@@ -45,10 +44,10 @@ fn run_given<S: Source, D: Desk>(
     exchange: &mut Exchange<S, D>,
 ) -> Status
     ensures words { IfOk given (λ words. Runs (record { left = S.left; faults = S.faults; tells = D.tells; seen = D.seen; stopped = D.stopped })
-        (asked_of (map string_bytes (drop 1 words.items))) (source_of exchange.old) (source_of exchange.new) exchange.old.desk exchange.new.desk (takes_of exchange.old) (takes_of exchange.new) result) }
+        (asked_of (map string_bytes (drop 1 words.items))) exchange.old exchange.new result) }
     ensures no_text { IfErr given (λ error. error_kind error ≢ ErrorKind.OutOfMemory
         → Runs (record { left = S.left; faults = S.faults; tells = D.tells; seen = D.seen; stopped = D.stopped })
-        None (source_of exchange.old) (source_of exchange.new) exchange.old.desk exchange.new.desk (takes_of exchange.old) (takes_of exchange.new) result) }
+        None exchange.old exchange.new result) }
     ensures no_memory { IfErr given (λ error. error_kind error ≡ ErrorKind.OutOfMemory
         → (result ≡ Status.NoMemory) × (exchange.new ≡ exchange.old)) }
 {
@@ -72,10 +71,10 @@ fn ends<S: Source, D: Desk>(
     exchange: &mut Exchange<S, D>,
 ) -> ExitCode
     ensures words { IfOk given (λ words. (status : Status) × Runs (record { left = S.left; faults = S.faults; tells = D.tells; seen = D.seen; stopped = D.stopped })
-        (asked_of (map string_bytes (drop 1 words.items))) (source_of exchange.old) (source_of exchange.new) exchange.old.desk exchange.new.desk (takes_of exchange.old) (takes_of exchange.new) status × (exit_status result ≡ number_of status)) }
+        (asked_of (map string_bytes (drop 1 words.items))) exchange.old exchange.new status × (exit_status result ≡ number_of status)) }
     ensures no_text { IfErr given (λ error. error_kind error ≢ ErrorKind.OutOfMemory
         → (status : Status) × Runs (record { left = S.left; faults = S.faults; tells = D.tells; seen = D.seen; stopped = D.stopped })
-        None (source_of exchange.old) (source_of exchange.new) exchange.old.desk exchange.new.desk (takes_of exchange.old) (takes_of exchange.new) status × (exit_status result ≡ number_of status)) }
+        None exchange.old exchange.new status × (exit_status result ≡ number_of status)) }
     ensures no_memory { IfErr given (λ error. error_kind error ≡ ErrorKind.OutOfMemory
         → (exit_status result ≡ number_of Status.NoMemory) × (exchange.new ≡ exchange.old)) }
 {

@@ -2,7 +2,8 @@ ghost use Rattle.std.specs.Prelude.{◌≡◌, ◌++◌, None, Some, map};
 ghost use Rattle.std.specs.Option.{option_map};
 ghost use Rattle.std.specs.String.{string_bytes};
 ghost use Rattle.ziti_outside.specs.Untouched.{OnlyNotes};
-ghost use Rattle.live_lines.specs.Exchanges.{source_of, takes_of};
+ghost use Rattle.live_lines.specs.Exchanges.{source_of};
+ghost use Rattle.live_lines.specs.LiveLines.{reading_of};
 ghost use Rattle.live_lines.specs.InTime.{IsInTime};
 ghost use Rattle.zitiline.specs.declared.words.Asked.TheVariants.{Turn};
 ghost use Rattle.zitiline.specs.declared.words.Form.TheVariants as form;
@@ -19,9 +20,9 @@ use crate::notes::{note_lines, status_note};
 use crate::pages::page_text;
 use crate::status::Status;
 use crate::words::{Asked, Form, Page, Whole, asked_of};
+use frame_lines::DecodeFault;
 use live_lines::{Exchange, Kind, tell_live};
 use std::alloc::{AllocError, Global};
-use trace_lines::ReplyFault;
 use ziti_outside::{Desk, Failed, Source};
 
 // Notes a status that no input decides, and answers it.
@@ -115,11 +116,11 @@ fn run_whole<S: Source, D: Desk>(
 }
 
 // Notes the fault of an input that was told as it came, if there is one, and answers the status that it decides.
-fn end_told<D: Desk>(alloc: Global, fault: Option<ReplyFault>, desk: &mut D) -> Status
+fn end_told<D: Desk>(alloc: Global, fault: Option<DecodeFault>, desk: &mut D) -> Status
     ensures ends { EndsTold fault (D.seen desk.old) (D.seen desk.new) result }
     ensures others { OnlyNotes D.seen D.stopped desk.old desk.new }
 {
-    match note_of(alloc, fault.map(Fault::Reply)) {
+    match note_of(alloc, fault.map(Fault::Frame)) {
         Ok(note) => end_by(&note, desk),
         Err(AllocError) => end_with(Status::NoMemory, desk),
     }
@@ -128,7 +129,7 @@ fn end_told<D: Desk>(alloc: Global, fault: Option<ReplyFault>, desk: &mut D) -> 
 // Says the lines of an input as it comes.
 fn run_live<S: Source, D: Desk>(alloc: Global, kind: Kind, exchange: &mut Exchange<S, D>) -> Status
     ensures answers { Answers (form.Live kind) (S.left (source_of exchange.old)) (S.left (source_of exchange.new)) (D.seen exchange.old.desk) (D.seen exchange.new.desk) result }
-    ensures in_time { IsInTime kind S.left D.seen (source_of exchange.old) exchange.old.desk (takes_of exchange.old) (takes_of exchange.new) }
+    ensures in_time { IsInTime (reading_of kind) S.left D.seen exchange.old exchange.new }
     ensures read { IsReadCaused (S.faults (source_of exchange.old)) (S.faults (source_of exchange.new)) result }
     ensures cause { IsWriteCaused (D.seen exchange.old.desk).say_faults (D.seen exchange.new.desk).say_faults result }
     ensures folder { LeavesFolder D.seen D.stopped exchange.old.desk exchange.new.desk }
@@ -141,7 +142,7 @@ fn run_live<S: Source, D: Desk>(alloc: Global, kind: Kind, exchange: &mut Exchan
 
 fn run_form<S: Source, D: Desk>(alloc: Global, turn: Form, exchange: &mut Exchange<S, D>) -> Status
     ensures { Runs (record { left = S.left; faults = S.faults; tells = D.tells; seen = D.seen; stopped = D.stopped })
-        (Some (Turn turn)) (source_of exchange.old) (source_of exchange.new) exchange.old.desk exchange.new.desk (takes_of exchange.old) (takes_of exchange.new) result }
+        (Some (Turn turn)) exchange.old exchange.new result }
 {
     match turn {
         Form::Whole(whole) => run_whole(alloc, whole, exchange),
@@ -167,7 +168,7 @@ fn run_asked<S: Source, D: Desk>(
     exchange: &mut Exchange<S, D>,
 ) -> Status
     ensures { Runs (record { left = S.left; faults = S.faults; tells = D.tells; seen = D.seen; stopped = D.stopped })
-        (Some asked) (source_of exchange.old) (source_of exchange.new) exchange.old.desk exchange.new.desk (takes_of exchange.old) (takes_of exchange.new) result }
+        (Some asked) exchange.old exchange.new result }
 {
     match asked {
         Asked::Turn(turn) => run_form(alloc, turn, exchange),
@@ -183,7 +184,7 @@ pub fn run<S: Source, D: Desk>(
     exchange: &mut Exchange<S, D>,
 ) -> Status
     ensures runs { Runs (record { left = S.left; faults = S.faults; tells = D.tells; seen = D.seen; stopped = D.stopped })
-        (asked_of (map string_bytes words.now)) (source_of exchange.old) (source_of exchange.new) exchange.old.desk exchange.new.desk (takes_of exchange.old) (takes_of exchange.new) result }
+        (asked_of (map string_bytes words.now)) exchange.old exchange.new result }
 {
     match asked_of(words) {
         Some(asked) => run_asked(alloc, asked, exchange),

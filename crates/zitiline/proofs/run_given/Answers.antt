@@ -10,7 +10,7 @@ pub returns-in-Ok-clause-words : goal.returns-in-Ok-clause-words
 returns-in-Ok-clause-words c d =
     let RunsOf : Option Asked → Type 0 = λ asked. Runs {S = c.row.S.Denot} {D = c.row.D.Denot}
     (record { left = c.S.Source.left; faults = c.S.Source.faults; tells = c.D.Desk.tells; seen = c.D.Desk.seen; stopped = c.D.Desk.stopped }) asked
-    d.args.exchange.now.source d.run.new.exchange.source d.args.exchange.now.desk d.run.new.exchange.desk d.args.exchange.now.takes.items d.run.new.exchange.takes.items d.run.result in
+    d.args.exchange.now d.run.new.exchange d.run.result in
     asked_with d.args.given d.asked_words.result _ _ _ d.in-Ok.is d.asked_words.ensures.words
     (λ words same. subst RunsOf (ap (λ ws. asked_of (map string_bytes ws)) (d.as_slice.ensures.value ∙ same)) d.run.ensures.runs)
 
@@ -18,7 +18,7 @@ pub returns-in-Ok-clause-no_text : goal.returns-in-Ok-clause-no_text
 returns-in-Ok-clause-no_text c d =
     let RunsOf : Option Asked → Type 0 = λ asked. Runs {S = c.row.S.Denot} {D = c.row.D.Denot}
     (record { left = c.S.Source.left; faults = c.S.Source.faults; tells = c.D.Desk.tells; seen = c.D.Desk.seen; stopped = c.D.Desk.stopped }) asked
-    d.args.exchange.now.source d.run.new.exchange.source d.args.exchange.now.desk d.run.new.exchange.desk d.args.exchange.now.takes.items d.run.new.exchange.takes.items d.run.result in
+    d.args.exchange.now d.run.new.exchange d.run.result in
     failed_with d.args.given d.asked_words.result _ _ _ _ d.in-Ok.is d.asked_words.ensures.no_text
     (λ same. subst RunsOf (ap (λ ws. asked_of (map string_bytes ws)) (d.as_slice.ensures.value ∙ same)) d.run.ensures.runs)
 

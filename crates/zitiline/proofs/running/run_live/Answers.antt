@@ -1,6 +1,7 @@
 use Rattle.std.proofs.Common.{None, subst, ◌∙◌}
+use Rattle.live_lines.specs.LiveLines.{reading_of}
 use Rattle.zitiline.specs.Notes.{notes_of, NotesLines}
-use Rattle.zitiline.proofs.TurnLaws.{live_answers, cut_answers, ended_read, ended_write, told_read, told_write, said_folder}
+use Rattle.zitiline.proofs.TurnLaws.{still_in_time, live_answers, cut_answers, ended_read, ended_write, told_read, told_write, said_folder}
 use Rattle.zitiline.proofs.running.run_live.Goals as goal
 
 pub returns-in-Ok-clause-answers : goal.returns-in-Ok-clause-answers
@@ -13,7 +14,8 @@ returns-in-Ok-clause-answers g c =
     c.in-Ok.ensures.told others.notes others.failed_notes c.end_told.ensures.others.replies c.end_told.ensures.ends
 
 pub returns-in-Ok-clause-in_time : goal.returns-in-Ok-clause-in_time
-returns-in-Ok-clause-in_time g c = c.tell_live.ensures.in_time
+returns-in-Ok-clause-in_time g c =
+    still_in_time (reading_of c.args.kind) g.S.Source.left g.D.Desk.seen c.args.exchange.now c.tell_live.new.exchange c.end_told.new.desk c.tell_live.ensures.in_time
 
 pub returns-in-Ok-clause-read : goal.returns-in-Ok-clause-read
 returns-in-Ok-clause-read g c =
@@ -43,7 +45,8 @@ returns-in-Err-clause-answers g c =
     (subst (λ s. NotesLines (notes_of None s) (seen mid.desk) now) c.told_status.ensures c.end_with.ensures.noted)
 
 pub returns-in-Err-clause-in_time : goal.returns-in-Err-clause-in_time
-returns-in-Err-clause-in_time g c = c.tell_live.ensures.in_time
+returns-in-Err-clause-in_time g c =
+    still_in_time (reading_of c.args.kind) g.S.Source.left g.D.Desk.seen c.args.exchange.now c.tell_live.new.exchange c.end_with.new.desk c.tell_live.ensures.in_time
 
 pub returns-in-Err-clause-read : goal.returns-in-Err-clause-read
 returns-in-Err-clause-read g c =

@@ -1,17 +1,18 @@
-use Rattle.std.proofs.Common.{ℕ, List, [], refl, sym, ap, ◌∙◌, take, subst}
+use Rattle.std.proofs.Common.{ℕ, List, [], length, refl, sym, ap, ◌∙◌, take, subst}
 use Rattle.std.proofs.lemmas.Result.{err_from_is_err_and}
 use Rattle.ziti_outside.specs.Causes.{Rose}
 use Rattle.ziti_outside.specs.Told.{Gave}
 use Rattle.ziti_outside.specs.Untouched.{OnlySays}
 use Rattle.ziti_outside.proofs.MomentLaws.{OnlySays-none, OnlySays-then}
-use Rattle.live_lines.proofs.WatchLaws.{in_time_start, watch_start, watch_take, watch_more, watch_cut, watch_unread, watch_starved, watch_none, watch_end, cut_calm, cut_said}
-use Rattle.live_lines.proofs.watching.tell_live.Goals as goal
+use Rattle.live_lines.proofs.WatchLaws.{takes_piece, takes_none, in_time_start, watch_start, watch_take, watch_more, watch_cut, watch_unread, watch_starved, watch_none, watch_end, cut_calm, cut_said}
+use Rattle.live_lines.proofs.watching.tell_kind.Goals as goal
 
 pub takes-init : goal.takes-init
 takes-init g c =
     let e = c.args.exchange.now in
     record {
-      watches = watch_start c.args.kind g.S.Source.left g.D.Desk.seen e.source e.desk e.takes.items c.new-telling.result c.new-telling.ensures;
+      room = ap (λ (bytes : List ℕ). length bytes) c.as_mut_slice-piece.ensures.value ∙ c.in_ok-room.ensures;
+      watches = watch_start g.K.LineKind.reading c.in_order.ensures g.S.Source.left g.D.Desk.seen e c.new-telling.result c.new-telling.ensures;
       calm = refl;
       calm_say = refl;
       others = OnlySays-none e.desk;
@@ -19,52 +20,48 @@ takes-init g c =
 
 pub takes-preserved : goal.takes-preserved
 takes-preserved g c =
+    let k = g.K.LineKind.reading in
     let held = c.takes.invariant in
-    let first = c.args.exchange.now in
     let now = c.takes.exchange in
     let mid = c.take.new.self in
-    let then = c.tell_piece.new.desk in
+    let then = record mid { desk = c.tell_piece.new.desk } in
     let e = c.in_ok-tell_piece-in-Ok.ensures in
     let piece : List ℕ = take c.in-Ok.count c.take.new.buf in
+    let gave = c.in-Ok.ensures.bytes.bytes in
+    let taken = takes_piece g.S.Source.left now.source mid.source now.desk mid.desk c.in-Ok.count c.take.new.buf gave (c.take.ensures.room ∙ held.room) c.take.ensures.desk in
     record {
-      watches = watch_more c.args.kind g.S.Source.left g.D.Desk.seen first.source now.source mid.source first.desk now.desk mid.desk then first.takes.items now.takes.items mid.takes.items
-          c.takes.telling c.tell_piece.new.telling piece held.watches c.take.ensures.takes c.in-Ok.ensures.bytes.bytes c.take.ensures.desk
-          (e.told c.args.kind held.watches.came held.watches.follows);
+      room = c.take.ensures.room ∙ held.room;
+      watches = watch_more k g.S.Source.left g.D.Desk.seen c.args.exchange.now now then mid.desk c.takes.telling c.tell_piece.new.telling piece held.watches
+          (watch_take k g.S.Source.left g.D.Desk.seen c.args.exchange.now now then (mid.source, mid.desk) c.takes.telling held.watches taken c.take.ensures.starts c.take.ensures.ends refl)
+          gave c.take.ensures.desk (e.told held.watches.came held.watches.follows);
       calm = c.in-Ok.ensures.cause.calm ∙ held.calm;
       calm_say = e.say_cause ∙ ap (λ d. (g.D.Desk.seen d).say_faults) c.take.ensures.desk ∙ held.calm_say;
-      others = OnlySays-then held.others (subst (λ d. OnlySays g.D.Desk.seen g.D.Desk.stopped d then) c.take.ensures.desk c.tell_piece.ensures.others);
+      others = OnlySays-then held.others (subst (λ d. OnlySays g.D.Desk.seen g.D.Desk.stopped d c.tell_piece.new.desk) c.take.ensures.desk c.tell_piece.ensures.others);
     }
 
 pub returns-in_err-room-clause-cut : goal.returns-in_err-room-clause-cut
 returns-in_err-room-clause-cut g c =
     let e = c.args.exchange.now in
     let p = err_from_is_err_and c.from_residual.result c.from_residual.ensures.1 in
-    rw p.1 (rw p.2 (watch_none c.args.kind (g.S.Source.left e.source) (g.D.Desk.seen e.desk).said))
+    rw p.1 (rw p.2 (watch_none g.K.LineKind.reading c.in_order.ensures (g.S.Source.left e.source) (g.D.Desk.seen e.desk).said))
 
 pub returns-in_err-room-clause-in_time : goal.returns-in_err-room-clause-in_time
-returns-in_err-room-clause-in_time g c =
-    let e = c.args.exchange.now in
-    in_time_start c.args.kind g.S.Source.left g.D.Desk.seen e.source e.desk e.takes.items
+returns-in_err-room-clause-in_time g c = in_time_start g.K.LineKind.reading g.S.Source.left g.D.Desk.seen c.args.exchange.now
 
 pub returns-in_err-room-clause-others : goal.returns-in_err-room-clause-others
 returns-in_err-room-clause-others g c = OnlySays-none c.args.exchange.now.desk
 
 pub returns-in-Err-clause-cut : goal.returns-in-Err-clause-cut
 returns-in-Err-clause-cut g c =
-    let held = c.takes.invariant in
-    let first = c.args.exchange.now in
-    let now = c.takes.exchange in
-    let mid = c.take.new.self in
-    watch_unread c.args.kind g.S.Source.left g.D.Desk.seen first.source now.source mid.source first.desk now.desk mid.desk first.takes.items now.takes.items c.takes.telling held.watches
+    watch_unread g.K.LineKind.reading g.S.Source.left g.D.Desk.seen c.args.exchange.now c.takes.exchange c.take.new.self c.takes.telling c.takes.invariant.watches
     c.in-Err.ensures.bytes.bytes c.take.ensures.desk
 
 pub returns-in-Err-clause-in_time : goal.returns-in-Err-clause-in_time
 returns-in-Err-clause-in_time g c =
-    let held = c.takes.invariant in
-    let first = c.args.exchange.now in
     let now = c.takes.exchange in
-    watch_take c.args.kind g.S.Source.left g.D.Desk.seen first.source now.source first.desk now.desk first.takes.items now.takes.items c.take.new.self.takes.items c.takes.telling held.watches
-    c.take.ensures.takes
+    let mid = c.take.new.self in
+    watch_take g.K.LineKind.reading g.S.Source.left g.D.Desk.seen c.args.exchange.now now mid (mid.source, mid.desk) c.takes.telling c.takes.invariant.watches
+    (takes_none g.S.Source.left now.source mid.source now.desk mid.desk c.in-Err.ensures.bytes.bytes c.take.ensures.desk) c.take.ensures.starts c.take.ensures.ends refl
 
 pub returns-in-Err-clause-take_cause : goal.returns-in-Err-clause-take_cause
 returns-in-Err-clause-take_cause g c =
@@ -80,22 +77,21 @@ returns-in-Err-clause-others g c =
 
 pub returns-in-Ok-eq0-clause-told : goal.returns-in-Ok-eq0-clause-told
 returns-in-Ok-eq0-clause-told g c =
-    let held = c.takes.invariant in
-    let first = c.args.exchange.now in
     let now = c.takes.exchange in
     let mid = c.take.new.self in
     let left = g.S.Source.left in
     let none : Gave (left now.source) (left mid.source) [] = subst (λ (n : ℕ). Gave (left now.source) (left mid.source) (take n c.take.new.buf)) c.in-Ok-eq0.field-0-test c.in-Ok-eq0.ensures.bytes.bytes in
-    watch_end c.args.kind left g.D.Desk.seen first.source now.source mid.source first.desk now.desk mid.desk first.takes.items now.takes.items c.takes.telling c.fault.result held.watches
-    none (c.in-Ok-eq0.ensures.bytes.end c.in-Ok-eq0.field-0-test) c.take.ensures.desk c.fault.ensures
+    watch_end g.K.LineKind.reading left g.D.Desk.seen c.args.exchange.now now mid c.takes.telling c.fault.result c.takes.invariant.watches none
+    (c.in-Ok-eq0.ensures.bytes.end c.in-Ok-eq0.field-0-test) c.take.ensures.desk c.fault.ensures
 
 pub returns-in-Ok-eq0-clause-in_time : goal.returns-in-Ok-eq0-clause-in_time
 returns-in-Ok-eq0-clause-in_time g c =
     let held = c.takes.invariant in
-    let first = c.args.exchange.now in
     let now = c.takes.exchange in
-    watch_take c.args.kind g.S.Source.left g.D.Desk.seen first.source now.source first.desk now.desk first.takes.items now.takes.items c.take.new.self.takes.items c.takes.telling held.watches
-    c.take.ensures.takes
+    let mid = c.take.new.self in
+    watch_take g.K.LineKind.reading g.S.Source.left g.D.Desk.seen c.args.exchange.now now mid (mid.source, mid.desk) c.takes.telling held.watches
+    (takes_piece g.S.Source.left now.source mid.source now.desk mid.desk _ c.take.new.buf c.in-Ok-eq0.ensures.bytes.bytes (c.take.ensures.room ∙ held.room) c.take.ensures.desk)
+    c.take.ensures.starts c.take.ensures.ends refl
 
 pub returns-in-Ok-eq0-clause-say_cause : goal.returns-in-Ok-eq0-clause-say_cause
 returns-in-Ok-eq0-clause-say_cause g c = ap (λ d. (g.D.Desk.seen d).say_faults) c.take.ensures.desk ∙ c.takes.invariant.calm_say
@@ -107,13 +103,11 @@ returns-in-Ok-eq0-clause-others g c =
 pub returns-in_err-tell_piece-in-Ok-clause-cut : goal.returns-in_err-tell_piece-in-Ok-clause-cut
 returns-in_err-tell_piece-in-Ok-clause-cut g c =
     let held = c.takes.invariant in
-    let first = c.args.exchange.now in
-    let now = c.takes.exchange in
     let mid = c.take.new.self in
     let piece : List ℕ = take c.in-Ok.count c.take.new.buf in
     let p = err_from_is_err_and c.from_residual-in_err-tell_piece-in-Ok.result c.from_residual-in_err-tell_piece-in-Ok.ensures.1 in
-    rw p.1 (rw p.2 (watch_cut _ c.args.kind g.S.Source.left g.D.Desk.seen first.source now.source mid.source first.desk now.desk mid.desk c.tell_piece.new.desk first.takes.items now.takes.items
-    c.takes.telling piece held.watches c.in-Ok.ensures.bytes.bytes c.take.ensures.desk (c.in_err-tell_piece-in-Ok.ensures.cut c.args.kind held.watches.came held.watches.follows)))
+    rw p.1 (rw p.2 (watch_cut _ g.K.LineKind.reading g.S.Source.left g.D.Desk.seen c.args.exchange.now c.takes.exchange (record mid { desk = c.tell_piece.new.desk }) mid.desk
+    c.takes.telling piece held.watches c.in-Ok.ensures.bytes.bytes c.take.ensures.desk (c.in_err-tell_piece-in-Ok.ensures.cut held.watches.came held.watches.follows)))
 
 pub returns-in_err-tell_piece-in-Ok-clause-take_cause : goal.returns-in_err-tell_piece-in-Ok-clause-take_cause
 returns-in_err-tell_piece-in-Ok-clause-take_cause g c =
@@ -122,8 +116,8 @@ returns-in_err-tell_piece-in-Ok-clause-take_cause g c =
     let mid = c.take.new.self in
     let piece : List ℕ = take c.in-Ok.count c.take.new.buf in
     let p = err_from_is_err_and c.from_residual-in_err-tell_piece-in-Ok.result c.from_residual-in_err-tell_piece-in-Ok.ensures.1 in
-    rw p.1 (rw p.2 (cut_calm _ c.args.kind held.watches.came piece (seen mid.desk).said (seen c.tell_piece.new.desk).said (g.S.Source.faults c.args.exchange.now.source) (g.S.Source.faults mid.source)
-    (c.in_err-tell_piece-in-Ok.ensures.cut c.args.kind held.watches.came held.watches.follows) (c.in-Ok.ensures.cause.calm ∙ held.calm)))
+    rw p.1 (rw p.2 (cut_calm _ g.K.LineKind.reading held.watches.came piece (seen mid.desk).said (seen c.tell_piece.new.desk).said (g.S.Source.faults c.args.exchange.now.source)
+    (g.S.Source.faults mid.source) (c.in_err-tell_piece-in-Ok.ensures.cut held.watches.came held.watches.follows) (c.in-Ok.ensures.cause.calm ∙ held.calm)))
 
 pub returns-in_err-tell_piece-in-Ok-clause-say_cause : goal.returns-in_err-tell_piece-in-Ok-clause-say_cause
 returns-in_err-tell_piece-in-Ok-clause-say_cause g c =
@@ -137,10 +131,11 @@ returns-in_err-tell_piece-in-Ok-clause-say_cause g c =
 pub returns-in_err-tell_piece-in-Ok-clause-in_time : goal.returns-in_err-tell_piece-in-Ok-clause-in_time
 returns-in_err-tell_piece-in-Ok-clause-in_time g c =
     let held = c.takes.invariant in
-    let first = c.args.exchange.now in
     let now = c.takes.exchange in
-    watch_take c.args.kind g.S.Source.left g.D.Desk.seen first.source now.source first.desk now.desk first.takes.items now.takes.items c.take.new.self.takes.items c.takes.telling held.watches
-    c.take.ensures.takes
+    let mid = c.take.new.self in
+    watch_take g.K.LineKind.reading g.S.Source.left g.D.Desk.seen c.args.exchange.now now (record mid { desk = c.tell_piece.new.desk }) (mid.source, mid.desk) c.takes.telling held.watches
+    (takes_piece g.S.Source.left now.source mid.source now.desk mid.desk c.in-Ok.count c.take.new.buf c.in-Ok.ensures.bytes.bytes (c.take.ensures.room ∙ held.room) c.take.ensures.desk)
+    c.take.ensures.starts c.take.ensures.ends refl
 
 pub returns-in_err-tell_piece-in-Ok-clause-others : goal.returns-in_err-tell_piece-in-Ok-clause-others
 returns-in_err-tell_piece-in-Ok-clause-others g c =
@@ -148,9 +143,7 @@ returns-in_err-tell_piece-in-Ok-clause-others g c =
 
 pub returns-clause-cut : goal.returns-clause-cut
 returns-clause-cut g c =
-    let first = c.args.exchange.now in
-    let now = c.takes.exchange in
-    watch_starved c.args.kind g.S.Source.left g.D.Desk.seen first.source now.source first.desk now.desk first.takes.items now.takes.items c.takes.telling c.takes.invariant.watches
+    watch_starved g.K.LineKind.reading g.S.Source.left g.D.Desk.seen c.args.exchange.now c.takes.exchange c.takes.telling c.takes.invariant.watches
 
 pub returns-clause-in_time : goal.returns-clause-in_time
 returns-clause-in_time g c = c.takes.invariant.watches.in_time
