@@ -8,7 +8,6 @@ pub mod JoinedRows
 pub mod LoadedRows
 pub mod OtherCommands
 pub mod TakenRows
-pub mod LookedCircuits
 pub mod SettledParts
 pub mod SettledRecords
 pub mod NewRecords
