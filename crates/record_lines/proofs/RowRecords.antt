@@ -1,5 +1,5 @@
 -- The records and the intercepts of a state that rows give are those that the rows are, in their order.
-use Rattle.std.proofs.Common.{◌≡◌, ℕ, ◌==◌, nat_le, Bool, true, false, cond, List, [], ◌∷◌, ◌++◌, flat_map, Option, None, Some, option_map, refl, sym, ◌∙◌, ap, append-nil, append_assoc}
+use Rattle.std.proofs.Common.{◌≡◌, ℕ, ◌==◌, ◌&&◌, nat_le, Bool, true, false, cond, List, [], ◌∷◌, ◌++◌, flat_map, Option, None, Some, option_map, refl, sym, ◌∙◌, ap, append-nil, append_assoc}
 use Rattle.std.specs.Prelude.{option_and_then}
 use Rattle.std.specs.Option.{option_map_or, option_or, unwrap_or}
 use Rattle.ctrl_model.specs.declared.intercepts.Intercept.{Intercept}
@@ -17,9 +17,9 @@ use Rattle.state_building.specs.JoinedRecords.{joined}
 use Rattle.state_building.specs.BuiltStates.{with_row, built, next_in, with_nexts, state_in}
 use Rattle.record_lines.specs.declared.listing.Listed.{Listed}
 use Rattle.record_lines.specs.declared.listing.Listed.TheVariants as listed
-use Rattle.record_lines.specs.RecordLines.{entry_line, intercept_line, line_of, lines_of}
+use Rattle.record_lines.specs.RecordLines.{intercept_line, line_asked, line_of, lines_asked, lines_of}
 use Rattle.record_lines.specs.RecordNames.{name_of, router_behind}
-use Rattle.record_lines.specs.RowTexts.{same_kind, name_in, name_said, name_among, ends_said, ends_among, behind, is_entity, is_policy, is_way, is_use, is_of, line_where, row_line}
+use Rattle.record_lines.specs.RowTexts.{same_kind, name_in, name_said, name_among, ends_said, ends_among, behind, is_entity, is_policy, is_way, is_use, is_of, is_asked, line_where, row_line}
 
 -- ---- the records of a kind
 
@@ -201,56 +201,119 @@ behind_rows rows v n =
     ap (behind v) (ends_in rows n) ∙ behind_in v (at (records_in kind.Link rows) n)
     ∙ ap (λ (l : List (ℕ × Link)). unwrap_or (option_and_then (other_end v) (at l n)) 0) (sym (table_rows kind.Link rows))
 
+-- ---- what is said of each
+
+-- what is said of a row, by what is said of a record of a kind under its number, and of an intercept
+abbrev pub row_said : ((k : Kind) → ℕ × Record k → List ℕ) → (ℕ × Intercept → List ℕ) → Row → List ℕ
+row_said f g x = by_row (record { next = λ k n. []; setting = λ cost. []; one = λ k n r. f k (n, r); count = λ r a b c. []; intercept = λ n i. g (n, i); serial = λ n. [] }) x
+
+said_step : (f : (k : Kind) → ℕ × Record k → List ℕ) (k j : Kind) → nat_le 1 (kind_number j) ≡ true → (m : ℕ) (r : Record j) (rest : List (ℕ × Record k)) (later : List ℕ)
+    → later ≡ flat_map (f k) rest
+    → cond (same_kind j k) (f j (m, r)) [] ++ later ≡ flat_map (f k) (one_of k j m r ++ rest)
+said_step f kind.Identity kind.Identity h m r rest later is = ap (λ (l : List ℕ). f kind.Identity (m, r) ++ l) is
+said_step f kind.Service kind.Service h m r rest later is = ap (λ (l : List ℕ). f kind.Service (m, r) ++ l) is
+said_step f kind.Router kind.Router h m r rest later is = ap (λ (l : List ℕ). f kind.Router (m, r) ++ l) is
+said_step f kind.Link kind.Link h m r rest later is = ap (λ (l : List ℕ). f kind.Link (m, r) ++ l) is
+said_step f kind.ServicePolicy kind.ServicePolicy h m r rest later is = ap (λ (l : List ℕ). f kind.ServicePolicy (m, r) ++ l) is
+said_step f kind.EdgeRouterPolicy kind.EdgeRouterPolicy h m r rest later is = ap (λ (l : List ℕ). f kind.EdgeRouterPolicy (m, r) ++ l) is
+said_step f kind.ServiceEdgeRouterPolicy kind.ServiceEdgeRouterPolicy h m r rest later is =
+    ap (λ (l : List ℕ). f kind.ServiceEdgeRouterPolicy (m, r) ++ l) is
+said_step f kind.Terminator kind.Terminator h m r rest later is = ap (λ (l : List ℕ). f kind.Terminator (m, r) ++ l) is
+said_step f kind.Circuit kind.Circuit h m r rest later is = ap (λ (l : List ℕ). f kind.Circuit (m, r) ++ l) is
+said_step f kind.Attribute kind.Attribute h m r rest later is = absurd (cc)
+said_step f k j h m r rest later is = is
+
+said_row : (f : (k : Kind) → ℕ × Record k → List ℕ) (g : ℕ × Intercept → List ℕ) (k : Kind) (x : Row) (rest : List (ℕ × Record k)) (later : List ℕ)
+    → later ≡ flat_map (f k) rest → cond (is_of (listed.Records k) x) (row_said f g x) [] ++ later ≡ flat_map (f k) (record_in k x ++ rest)
+said_row f g k (row.Identity m name attributes) rest later is = said_step f k kind.Identity refl m.0 _ rest later is
+said_row f g k (row.Service m name attributes) rest later is = said_step f k kind.Service refl m.0 _ rest later is
+said_row f g k (row.Router m name attributes cost through connected) rest later is = said_step f k kind.Router refl m.0 _ rest later is
+said_row f g k (row.Link m name a b cost latency_a latency_b up) rest later is = said_step f k kind.Link refl m.0 _ rest later is
+said_row f g k (row.ServicePolicy m name relation semantic identities services) rest later is = said_step f k kind.ServicePolicy refl m.0 _ rest later is
+said_row f g k (row.EdgeRouterPolicy m name semantic identities routers) rest later is = said_step f k kind.EdgeRouterPolicy refl m.0 _ rest later is
+said_row f g k (row.ServiceEdgeRouterPolicy m name semantic services routers) rest later is = said_step f k kind.ServiceEdgeRouterPolicy refl m.0 _ rest later is
+said_row f g k (row.Terminator m service router host instance cost precedence) rest later is = said_step f k kind.Terminator refl m.0 _ rest later is
+said_row f g k (row.Circuit m identity service terminator ingress links) rest later is = said_step f k kind.Circuit refl m.0 _ rest later is
+said_row f g k x rest later is = is
+
+claim_row : (f : (k : Kind) → ℕ × Record k → List ℕ) (g : ℕ × Intercept → List ℕ) (x : Row) (rest : List (ℕ × Intercept)) (later : List ℕ) → later ≡ flat_map g rest
+    → cond (is_of listed.Intercepts x) (row_said f g x) [] ++ later ≡ flat_map g (intercept_in x ++ rest)
+claim_row f g (row.Intercept n i) rest later is = ap (λ (l : List ℕ). g (n.0, i) ++ l) is
+claim_row f g x rest later is = is
+
+said_in_rows : (f : (k : Kind) → ℕ × Record k → List ℕ) (g : ℕ × Intercept → List ℕ) (k : Kind) (rows : List Row)
+    → flat_map (λ x. cond (is_of (listed.Records k) x) (row_said f g x) []) rows ≡ flat_map (f k) (records_in k rows)
+said_in_rows f g k [] = refl
+said_in_rows f g k (x ∷ xs) =
+    said_row f g k x (records_in k xs) (flat_map (λ y. cond (is_of (listed.Records k) y) (row_said f g y) []) xs) (said_in_rows f g k xs)
+
+claims_in_rows : (f : (k : Kind) → ℕ × Record k → List ℕ) (g : ℕ × Intercept → List ℕ) (rows : List Row)
+    → flat_map (λ x. cond (is_of listed.Intercepts x) (row_said f g x) []) rows ≡ flat_map g (intercepts_in rows)
+claims_in_rows f g [] = refl
+claims_in_rows f g (x ∷ xs) =
+    claim_row f g x (intercepts_in xs) (flat_map (λ y. cond (is_of listed.Intercepts y) (row_said f g y) []) xs) (claims_in_rows f g xs)
+
+-- what is said of the rows that are of a kind is what is said of the records that the state has of it
+pub said_of_records : (f : (k : Kind) → ℕ × Record k → List ℕ) (g : ℕ × Intercept → List ℕ) (k : Kind) (rows : List Row)
+    → flat_map (λ x. cond (is_of (listed.Records k) x) (row_said f g x) []) rows ≡ flat_map (f k) (table k (state_in rows)).rows
+said_of_records f g k rows = said_in_rows f g k rows ∙ ap (λ (l : List (ℕ × Record k)). flat_map (f k) l) (sym (table_rows k rows))
+
+-- and what is said of those that are intercepts is what is said of the state's
+pub said_of_intercepts : (f : (k : Kind) → ℕ × Record k → List ℕ) (g : ℕ × Intercept → List ℕ) (rows : List Row)
+    → flat_map (λ x. cond (is_of listed.Intercepts x) (row_said f g x) []) rows ≡ flat_map g (state_in rows).intercepts
+said_of_intercepts f g rows = claims_in_rows f g rows ∙ ap (λ (l : List (ℕ × Intercept)). flat_map g l) (sym (claims_of_rows rows))
+
 -- ---- lines
-
-line_step : (k j : Kind) → nat_le 1 (kind_number j) ≡ true → (s : State) (m : ℕ) (r : Record j) (rest : List (ℕ × Record k)) (later : List ℕ)
-    → later ≡ flat_map (line_of k s) rest
-    → cond (same_kind j k) (line_of j s (m, r)) [] ++ later ≡ flat_map (line_of k s) (one_of k j m r ++ rest)
-line_step kind.Identity kind.Identity h s m r rest later is = ap (λ (l : List ℕ). line_of kind.Identity s (m, r) ++ l) is
-line_step kind.Service kind.Service h s m r rest later is = ap (λ (l : List ℕ). line_of kind.Service s (m, r) ++ l) is
-line_step kind.Router kind.Router h s m r rest later is = ap (λ (l : List ℕ). line_of kind.Router s (m, r) ++ l) is
-line_step kind.Link kind.Link h s m r rest later is = ap (λ (l : List ℕ). line_of kind.Link s (m, r) ++ l) is
-line_step kind.ServicePolicy kind.ServicePolicy h s m r rest later is = ap (λ (l : List ℕ). line_of kind.ServicePolicy s (m, r) ++ l) is
-line_step kind.EdgeRouterPolicy kind.EdgeRouterPolicy h s m r rest later is = ap (λ (l : List ℕ). line_of kind.EdgeRouterPolicy s (m, r) ++ l) is
-line_step kind.ServiceEdgeRouterPolicy kind.ServiceEdgeRouterPolicy h s m r rest later is =
-    ap (λ (l : List ℕ). line_of kind.ServiceEdgeRouterPolicy s (m, r) ++ l) is
-line_step kind.Terminator kind.Terminator h s m r rest later is = ap (λ (l : List ℕ). line_of kind.Terminator s (m, r) ++ l) is
-line_step kind.Circuit kind.Circuit h s m r rest later is = ap (λ (l : List ℕ). line_of kind.Circuit s (m, r) ++ l) is
-line_step kind.Attribute kind.Attribute h s m r rest later is = absurd (cc)
-line_step k j h s m r rest later is = is
-
-line_row : (k : Kind) (s : State) (x : Row) (rest : List (ℕ × Record k)) (later : List ℕ) → later ≡ flat_map (line_of k s) rest
-    → line_where (is_of (listed.Records k)) s x ++ later ≡ flat_map (line_of k s) (record_in k x ++ rest)
-line_row k s (row.Identity m name attributes) rest later is = line_step k kind.Identity refl s m.0 _ rest later is
-line_row k s (row.Service m name attributes) rest later is = line_step k kind.Service refl s m.0 _ rest later is
-line_row k s (row.Router m name attributes cost through connected) rest later is = line_step k kind.Router refl s m.0 _ rest later is
-line_row k s (row.Link m name a b cost latency_a latency_b up) rest later is = line_step k kind.Link refl s m.0 _ rest later is
-line_row k s (row.ServicePolicy m name relation semantic identities services) rest later is = line_step k kind.ServicePolicy refl s m.0 _ rest later is
-line_row k s (row.EdgeRouterPolicy m name semantic identities routers) rest later is = line_step k kind.EdgeRouterPolicy refl s m.0 _ rest later is
-line_row k s (row.ServiceEdgeRouterPolicy m name semantic services routers) rest later is = line_step k kind.ServiceEdgeRouterPolicy refl s m.0 _ rest later is
-line_row k s (row.Terminator m service router host instance cost precedence) rest later is = line_step k kind.Terminator refl s m.0 _ rest later is
-line_row k s (row.Circuit m identity service terminator ingress links) rest later is = line_step k kind.Circuit refl s m.0 _ rest later is
-line_row k s x rest later is = is
-
-lines_in_rows : (k : Kind) (s : State) (rows : List Row) → flat_map (line_where (is_of (listed.Records k)) s) rows ≡ flat_map (line_of k s) (records_in k rows)
-lines_in_rows k s [] = refl
-lines_in_rows k s (x ∷ xs) = line_row k s x (records_in k xs) (flat_map (line_where (is_of (listed.Records k)) s) xs) (lines_in_rows k s xs)
-
-claim_row : (s : State) (x : Row) (rest : List (ℕ × Intercept)) (later : List ℕ) → later ≡ flat_map (entry_line listed.Intercepts s) rest
-    → line_where (is_of listed.Intercepts) s x ++ later ≡ flat_map (entry_line listed.Intercepts s) (intercept_in x ++ rest)
-claim_row s (row.Intercept n i) rest later is = ap (λ (l : List ℕ). intercept_line s n.0 i ++ l) is
-claim_row s x rest later is = is
-
-claims_in_rows : (s : State) (rows : List Row) → flat_map (line_where (is_of listed.Intercepts) s) rows ≡ flat_map (entry_line listed.Intercepts s) (intercepts_in rows)
-claims_in_rows s [] = refl
-claims_in_rows s (x ∷ xs) = claim_row s x (intercepts_in xs) (flat_map (line_where (is_of listed.Intercepts) s) xs) (claims_in_rows s xs)
 
 -- the lines of rows are those of what the state has that they give
 pub lines_of_rows : (l : Listed) (rows : List Row) → flat_map (line_where (is_of l) (state_in rows)) rows ≡ lines_of l (state_in rows)
 lines_of_rows (listed.Records k) rows =
-    lines_in_rows k (state_in rows) rows ∙ ap (λ (l : List (ℕ × Record k)). flat_map (line_of k (state_in rows)) l) (sym (table_rows k rows))
+    said_of_records (λ j x. line_of j (state_in rows) x) (λ x. intercept_line (state_in rows) x.0 x.1) k rows
 lines_of_rows listed.Intercepts rows =
-    claims_in_rows (state_in rows) rows ∙ ap (λ (l : List (ℕ × Intercept)). flat_map (entry_line listed.Intercepts (state_in rows)) l) (sym (claims_of_rows rows))
+    said_of_intercepts (λ j x. line_of j (state_in rows) x) (λ x. intercept_line (state_in rows) x.0 x.1) rows
+
+-- ---- lines that a word asks for
+
+both_tests : (a b : Bool) (l : List ℕ) → cond (a && b) l [] ≡ cond a (cond b l []) []
+both_tests true b l = refl
+both_tests false b l = refl
+
+-- what is said of a row that a word asks for
+abbrev row_asked : List ℕ → State → Row → List ℕ
+row_asked word s x = row_said (λ k y. line_asked (listed.Records k) word s y) (λ y. line_asked listed.Intercepts word s y) x
+
+tested : (l : Listed) (word : List ℕ) (s : State) (x : Row) → line_where (is_asked l word s) s x ≡ cond (is_of l x) (row_asked word s x) []
+tested (listed.Records k) word s (row.Identity m name attributes) = both_tests (same_kind kind.Identity k) _ _
+tested (listed.Records k) word s (row.Service m name attributes) = both_tests (same_kind kind.Service k) _ _
+tested (listed.Records k) word s (row.Router m name attributes cost through connected) = both_tests (same_kind kind.Router k) _ _
+tested (listed.Records k) word s (row.Link m name a b cost latency_a latency_b up) = both_tests (same_kind kind.Link k) _ _
+tested (listed.Records k) word s (row.ServicePolicy m name relation semantic identities services) = both_tests (same_kind kind.ServicePolicy k) _ _
+tested (listed.Records k) word s (row.EdgeRouterPolicy m name semantic identities routers) = both_tests (same_kind kind.EdgeRouterPolicy k) _ _
+tested (listed.Records k) word s (row.ServiceEdgeRouterPolicy m name semantic services routers) = both_tests (same_kind kind.ServiceEdgeRouterPolicy k) _ _
+tested (listed.Records k) word s (row.Terminator m service router host instance cost precedence) = both_tests (same_kind kind.Terminator k) _ _
+tested (listed.Records k) word s (row.Circuit m identity service terminator ingress links) = both_tests (same_kind kind.Circuit k) _ _
+tested (listed.Records k) word s x = refl
+tested listed.Intercepts word s (row.Intercept n i) = refl
+tested listed.Intercepts word s x = refl
+
+all_tested : (l : Listed) (word : List ℕ) (s : State) (rows : List Row)
+    → flat_map (line_where (is_asked l word s) s) rows ≡ flat_map (λ x. cond (is_of l x) (row_asked word s x) []) rows
+all_tested l word s [] = refl
+all_tested l word s (x ∷ xs) =
+    ap (λ (h : List ℕ). h ++ flat_map (line_where (is_asked l word s) s) xs) (tested l word s x)
+    ∙ ap (λ (t : List ℕ). cond (is_of l x) (row_asked word s x) [] ++ t) (all_tested l word s xs)
+
+-- the lines of rows that a word asks for are those of what it asks for in the state that they give
+pub lines_asked_of_rows : (l : Listed) (word : List ℕ) (rows : List Row)
+    → flat_map (line_where (is_asked l word (state_in rows)) (state_in rows)) rows ≡ lines_asked l word (state_in rows)
+lines_asked_of_rows (listed.Records k) word rows =
+    let s = state_in rows in
+    all_tested (listed.Records k) word s rows
+    ∙ said_of_records (λ j x. line_asked (listed.Records j) word s x) (λ x. line_asked listed.Intercepts word s x) k rows
+lines_asked_of_rows listed.Intercepts word rows =
+    let s = state_in rows in
+    all_tested listed.Intercepts word s rows
+    ∙ said_of_intercepts (λ j x. line_asked (listed.Records j) word s x) (λ x. line_asked listed.Intercepts word s x) rows
 
 -- ---- the families of rows
 

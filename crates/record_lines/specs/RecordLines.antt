@@ -1,12 +1,13 @@
 -- The lines that say the records of a state, kind by kind, and its intercepts (docs/FORMATS.md, "Lines of records").
-use Rattle.std.specs.Prelude.{ℕ, not, List, [], ◌∷◌, ◌++◌, codes, decimal}
+use Rattle.std.specs.Prelude.{ℕ, not, cond, List, [], ◌∷◌, ◌++◌, codes, decimal}
 use Rattle.std.specs.List.{flat_map}
 use Rattle.std.specs.Option.{option_map}
+use Rattle.std.specs.Str.{bytes_eq}
 use Rattle.ctrl_model.specs.declared.intercepts.Intercept.{Intercept}
 use Rattle.ctrl_model.specs.declared.kinds.Kind.{Kind}
 use Rattle.ctrl_model.specs.declared.kinds.Kind.TheVariants as kind
 use Rattle.ctrl_model.specs.State.{State, Entity, Router, Link, Policy, Terminator, Circuit}
-use Rattle.ctrl_model.specs.Tables.{Record, table}
+use Rattle.ctrl_model.specs.Tables.{Record, table, has_names, record_name}
 use Rattle.command_bodies.specs.WrittenWords.{relation_word, semantic_word, precedence_word}
 use Rattle.record_lines.specs.declared.listing.Listed.{Listed}
 use Rattle.record_lines.specs.declared.listing.Listed.TheVariants as listed
@@ -120,3 +121,20 @@ entry_line listed.Intercepts s x = intercept_line s x.0 x.1
 -- The lines of what is listed, in the order of the numbers.
 abbrev pub lines_of : Listed → State → List ℕ
 lines_of l s = flat_map (entry_line l s) (entries l s)
+
+-- The word that asks for a record under its number: its name, or the number where records of the kind have no names.
+abbrev pub record_word : (k : Kind) → ℕ × Record k → List ℕ
+record_word k x = cond (has_names k) (record_name k x.1) (decimal x.0)
+
+-- The word that asks for one of what is listed: that of a record, or the name of the service of an intercept.
+abbrev pub entry_word : (l : Listed) → State → ℕ × Entry l → List ℕ
+entry_word (listed.Records k) s x = record_word k x
+entry_word listed.Intercepts s x = name_of kind.Service s x.0
+
+-- The line of one, if the word asks for it.
+abbrev pub line_asked : (l : Listed) → List ℕ → State → ℕ × Entry l → List ℕ
+line_asked l word s x = cond (bytes_eq (entry_word l s x) word) (entry_line l s x) []
+
+-- The lines of those that a word asks for: in a valid state one, or none.
+abbrev pub lines_asked : Listed → List ℕ → State → List ℕ
+lines_asked l word s = flat_map (line_asked l word s) (entries l s)

@@ -1,11 +1,12 @@
--- What rows say of records, and the lines of rows. Only private contracts cite these.
-use Rattle.std.specs.Prelude.{ℕ, ◌==◌, ◌&&◌, ◌||◌, Bool, true, false, cond, List, [], ◌∷◌, None, Some, option_and_then}
+-- What rows say of records, and the lines of rows (docs/FORMATS.md, "Lines of records").
+use Rattle.std.specs.Prelude.{ℕ, ◌==◌, ◌&&◌, ◌||◌, Bool, true, false, cond, List, [], ◌∷◌, decimal, None, Some, option_and_then}
 use Rattle.std.specs.declared.option.Option.{Option}
 use Rattle.std.specs.Option.{option_map_or, option_or, unwrap_or}
+use Rattle.std.specs.Str.{bytes_eq}
 use Rattle.ctrl_model.specs.declared.kinds.Kind.{Kind}
 use Rattle.ctrl_model.specs.declared.kinds.Kind.TheVariants as kind
 use Rattle.ctrl_model.specs.State.{State}
-use Rattle.ctrl_model.specs.Tables.{is_entity_kind, is_policy_kind, record_name}
+use Rattle.ctrl_model.specs.Tables.{has_names, is_entity_kind, is_policy_kind, record_name}
 use Rattle.row_codec.specs.declared.rows.Row.{Row}
 use Rattle.row_codec.specs.declared.rows.Row.TheVariants as row
 use Rattle.row_codec.specs.RowKeys.{kind_number}
@@ -13,6 +14,7 @@ use Rattle.state_building.specs.RowForms.{by_row}
 use Rattle.record_lines.specs.declared.listing.Listed.{Listed}
 use Rattle.record_lines.specs.declared.listing.Listed.TheVariants as listed
 use Rattle.record_lines.specs.RecordLines.{intercept_line, line_of}
+use Rattle.record_lines.specs.RecordNames.{name_of}
 
 -- Whether two kinds are one.
 abbrev pub same_kind : Kind → Kind → Bool
@@ -76,6 +78,26 @@ says_intercept x = by_row (record {
 abbrev pub is_of : Listed → Row → Bool
 is_of (listed.Records k) x = is_record (λ j. same_kind j k) x
 is_of listed.Intercepts x = says_intercept x
+
+-- Whether a row is a record that a word asks for.
+abbrev pub is_record_asked : List ℕ → Row → Bool
+is_record_asked word x = option_map_or (λ (e : Kind × ℕ × List ℕ). bytes_eq (cond (has_names e.0) e.2 (decimal e.1)) word) (entry_in x) false
+
+-- Whether a row says an intercept that a word asks for.
+abbrev pub is_intercept_asked : State → List ℕ → Row → Bool
+is_intercept_asked s word x = by_row (record {
+  next = λ k n. false;
+  setting = λ cost. false;
+  one = λ k n r. false;
+  count = λ r a b c. false;
+  intercept = λ n i. bytes_eq (name_of kind.Service s n) word;
+  serial = λ n. false;
+}) x
+
+-- Whether a row is one of what is listed, and a word asks for it.
+abbrev pub is_asked : Listed → List ℕ → State → Row → Bool
+is_asked (listed.Records k) word s x = is_record (λ j. same_kind j k) x && is_record_asked word x
+is_asked listed.Intercepts word s x = is_intercept_asked s word x
 
 -- The line of the record or of the intercept that a row is; nothing where it is neither.
 abbrev pub row_line : State → Row → List ℕ

@@ -11,5 +11,7 @@ mod word_putting;
 mod worked;
 
 pub use laws::fields_are_the_body;
-pub use listing::{Listed, list};
-pub use worked::{worked_intercepts, worked_lists};
+pub use listing::{Listed, is_of, list, show};
+pub use naming::name_of;
+pub use record_putting::put_row;
+pub use worked::{worked_intercepts, worked_lists, worked_shows};

@@ -61,7 +61,7 @@ fn name_among(rows: &[Row], kind: Kind, no: u32) -> &[u8]
 }
 
 /// The name of the record of a kind that has a number, in the state that rows give; none where no record has it.
-pub(crate) fn name_of(rows: &[Row], kind: Kind, no: u32) -> &[u8]
+pub fn name_of(rows: &[Row], kind: Kind, no: u32) -> &[u8]
     ensures { result.now ≡ name_of kind (state_in rows.now) no }
 {
     name_among(rows, kind, no)

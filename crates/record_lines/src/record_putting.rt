@@ -315,9 +315,10 @@ fn put_use_row(text: &mut Vec<u8>, rows: &[Row], row: &Row) -> Result<(), AllocE
     }
 }
 
-/// Puts the line of the record or of the intercept that a row is, in the state that rows give; nothing where it is neither.
+/// Puts the line of the record or of the intercept that a row is behind a text, in the state that rows give; nothing where it is
+/// neither (docs/FORMATS.md, "Lines of records"). An `Err` is want of memory.
 #[tactic(auto, using(crate::proofs::RowRecords::line_by_family))]
-pub(crate) fn put_row(text: &mut Vec<u8>, rows: &[Row], row: &Row) -> Result<(), AllocError>
+pub fn put_row(text: &mut Vec<u8>, rows: &[Row], row: &Row) -> Result<(), AllocError>
     ensures { OnOk result (text.new.items ≡ text.old.items ++ row_line (state_in rows.now) row.now) }
 {
     put_entity_row(text, row)?;

@@ -3,7 +3,7 @@ ghost use Rattle.ctrl_model.specs.declared.addresses.Address.TheVariants.{Host, 
 ghost use Rattle.ctrl_model.specs.State.{start};
 ghost use Rattle.ctrl_model.specs.declared.kinds.Kind.TheVariants as kind;
 ghost use Rattle.record_lines.specs.declared.listing.Listed.TheVariants.{Intercepts, Records};
-ghost use Rattle.record_lines.specs.RecordLines.{intercept_line, lines_of};
+ghost use Rattle.record_lines.specs.RecordLines.{intercept_line, lines_asked, lines_of};
 ghost use Rattle.record_lines.specs.WorkedRecords.{claimed_network, small_network};
 
 /// The lines of the records of a small network.
@@ -26,4 +26,17 @@ pub fn worked_intercepts()
     ensures more { intercept_line claimed_network 2 (record { tcp = true; udp = true; addresses = Host (codes "a.b") ∷ Range 167838211 32 ∷ []; ports = record { low = 80; high = 80 } ∷ record { low = 1; high = 65535 } ∷ [] })
         ≡ codes "2 api protocols=[\"tcp\",\"udp\"] addresses=[\"a.b\",\"10.1.2.3\"] ports=[[80,80],[1,65535]]\n" }
     ensures none { lines_of Intercepts small_network ≡ [] }
+{}
+
+/// The line of one record of a small network, and of one intercept.
+pub fn worked_shows()
+    ensures named { lines_asked (Records kind.Router) (codes "r2") small_network ≡ codes "2 r2 cost=0 no_traversal=false connected=true\n" }
+    ensures other_kind { lines_asked (Records kind.Identity) (codes "r2") small_network ≡ [] }
+    ensures number_of_a_named_one { lines_asked (Records kind.Router) (codes "2") small_network ≡ [] }
+    ensures terminator { lines_asked (Records kind.Terminator) (codes "1") small_network ≡ codes "1 service=web router=r2 instance= cost=0 precedence=default\n" }
+    ensures circuit { lines_asked (Records kind.Circuit) (codes "1") small_network ≡ codes "1 identity=ann service=web terminator=1 route=r1,l1,r2\n" }
+    ensures no_number { lines_asked (Records kind.Circuit) (codes "01") small_network ≡ [] }
+    ensures no_name { lines_asked (Records kind.Circuit) [] small_network ≡ [] }
+    ensures intercept { lines_asked Intercepts (codes "api") claimed_network ≡ codes "2 api protocols=[\"tcp\"] addresses=[\"10.1.0.0/16\"] ports=[[22,22]]\n" }
+    ensures no_intercept { lines_asked Intercepts (codes "web") small_network ≡ [] }
 {}

@@ -1,5 +1,5 @@
 -- A run by what it was asked for.
-use Rattle.std.proofs.Common.{◌≡◌, ◌⊎◌, inl, inr, ℕ, Bool, List, None, Some, refl, sym, ap, ◌∙◌, subst}
+use Rattle.std.proofs.Common.{◌≡◌, ◌⊎◌, inl, inr, ℕ, Bool, List, Result, Ok, Err, None, Some, refl, sym, ap, ◌∙◌, subst}
 use Rattle.ziti_outside.specs.Untouched.{OnlyNotes}
 use Rattle.ziti_outside.specs.Views.{Seen, Stopped}
 use Rattle.ctrl_model.specs.State.{State}
@@ -9,35 +9,13 @@ use Rattle.zitilook.specs.declared.words.Asked.TheVariants as asked
 use Rattle.zitilook.specs.declared.words.Page.{Page}
 use Rattle.zitilook.specs.declared.status.Status.{Status}
 use Rattle.zitilook.specs.declared.status.Status.TheVariants.{Usage, Unknown, WriteFault, DiskFault, NoMemory}
-use Rattle.zitilook.specs.Headline.{Refuses, Runs, refusal_of, told_of}
-use Rattle.zitilook.specs.Looks.{IsClosed, FindsNone, Looks, Says, SaysText}
+use Rattle.zitilook.specs.Headline.{Runs, refusal_of, told_of}
+use Rattle.zitilook.specs.Looks.{IsClosed, FindsNone, Looks, Refuses, Says, SaysText, Tells}
 use Rattle.zitilook.specs.Notes.{notes_of}
 use Rattle.zitilook.specs.Pages.{page_text}
 use Rattle.zitilook.specs.Steps.{EndsSo}
 use Rattle.zitilook.proofs.FolderLaws.{noted_ends}
 use Rattle.zitilook.proofs.WordLaws.{same_some, none_some}
-
--- what looks ends otherwise than with Usage
-look_used : (text : State → List ℕ) (tells : Bool) (a b : Seen) (status : Status) → FindsNone tells a b status ⊎ Looks text tells a b status → status ≡ Usage → ⊥
-look_used text tells a b status (inl none) is = subst (λ (s : Status). IsClosed tells a b s) is none.why
-look_used text tells a b status (inr looks) is = subst (λ (s : Status). Says s (text looks.state) a.said b.said) is looks.says.says
-
--- the state of the folder is asked about
-pub look_runs : {D : Type 0} (tells : Bool) (seen : D → Seen) (stopped : D → Stopped) (words : List (List ℕ)) (asks : Asked) (text : State → List ℕ) (old new : D) (status : Status)
-    → told_of words asks ≡ Some text → refusal_of words asks ≡ None
-    → FindsNone tells (seen old) (seen new) status ⊎ Looks text tells (seen old) (seen new) status → EndsSo seen stopped old new status
-    → Runs tells seen stopped words (Some asks) old new status
-look_runs tells seen stopped words asks text old new status told none looks ends = record {
-  usage = ((λ e. absurd (look_used text tells (seen old) (seen new) status looks e)), (λ (e : Some asks ≡ None). absurd cc));
-  usage_note = λ (e : Some asks ≡ None). absurd cc;
-  looks = λ other e t is. subst (λ (x : State → List ℕ). FindsNone tells (seen old) (seen new) status ⊎ Looks x tells (seen old) (seen new) status)
-      (same_some text t (sym told ∙ ap (told_of words) (same_some asks other e) ∙ is)) looks;
-  refuses = λ other e note is. absurd (none_some (refusal_of words asks) note none (ap (refusal_of words) (same_some asks other e) ∙ is));
-  pages = λ page e. absurd (none_some (told_of words asks) text (ap (told_of words) (same_some asks (asked.Tell page) e)) told);
-  pages_want_no_memory = λ page e. absurd (none_some (told_of words asks) text (ap (told_of words) (same_some asks (asked.Tell page) e)) told);
-  causes = ends.causes;
-  folder = ends.folder;
-}
 
 refused_used : (note : List ℕ) (a b : Seen) (status : Status) → Refuses note a b status → status ≡ Usage → ⊥
 refused_used note a b status told is = by told.why
@@ -45,6 +23,33 @@ refused_used note a b status told is = by told.why
     by : ((status ≡ Unknown) × NotesLines note a b) ⊎ ((status ≡ NoMemory) × NotesLines (notes_of NoMemory) a b) → ⊥
     by (inl w) = let e : status ≡ Unknown = w.0 in absurd cc
     by (inr w) = let e : status ≡ NoMemory = w.0 in absurd cc
+
+-- what tells ends otherwise than with Usage
+told_used : (told : Result (List ℕ) (List ℕ)) (a b : Seen) (status : Status) → Tells told a b status → status ≡ Usage → ⊥
+told_used (Ok text) a b status says is = subst (λ (s : Status). Says s text a.said b.said) is says.says
+told_used (Err note) a b status refuses is = refused_used note a b status refuses is
+
+-- and so does what looks
+look_used : (told : State → Result (List ℕ) (List ℕ)) (tells : Bool) (a b : Seen) (status : Status) → FindsNone tells a b status ⊎ Looks told tells a b status → status ≡ Usage → ⊥
+look_used told tells a b status (inl none) is = subst (λ (s : Status). IsClosed tells a b s) is none.why
+look_used told tells a b status (inr looks) is = told_used (told looks.state) a b status looks.says is
+
+-- the state of the folder is asked about
+pub look_runs : {D : Type 0} (tells : Bool) (seen : D → Seen) (stopped : D → Stopped) (words : List (List ℕ)) (asks : Asked) (text : State → Result (List ℕ) (List ℕ)) (old new : D) (status : Status)
+    → told_of words asks ≡ Some text → refusal_of words asks ≡ None
+    → FindsNone tells (seen old) (seen new) status ⊎ Looks text tells (seen old) (seen new) status → EndsSo seen stopped old new status
+    → Runs tells seen stopped words (Some asks) old new status
+look_runs tells seen stopped words asks text old new status told none looks ends = record {
+  usage = ((λ e. absurd (look_used text tells (seen old) (seen new) status looks e)), (λ (e : Some asks ≡ None). absurd cc));
+  usage_note = λ (e : Some asks ≡ None). absurd cc;
+  looks = λ other e t is. subst (λ (x : State → Result (List ℕ) (List ℕ)). FindsNone tells (seen old) (seen new) status ⊎ Looks x tells (seen old) (seen new) status)
+      (same_some text t (sym told ∙ ap (told_of words) (same_some asks other e) ∙ is)) looks;
+  refuses = λ other e note is. absurd (none_some (refusal_of words asks) note none (ap (refusal_of words) (same_some asks other e) ∙ is));
+  pages = λ page e. absurd (none_some (told_of words asks) text (ap (told_of words) (same_some asks (asked.Tell page) e)) told);
+  pages_want_no_memory = λ page e. absurd (none_some (told_of words asks) text (ap (told_of words) (same_some asks (asked.Tell page) e)) told);
+  causes = ends.causes;
+  folder = ends.folder;
+}
 
 -- a word names nothing
 pub refused_runs : {D : Type 0} (tells : Bool) (seen : D → Seen) (stopped : D → Stopped) (words : List (List ℕ)) (asks : Asked) (note : List ℕ) (old new : D) (status : Status)

@@ -1,13 +1,13 @@
 -- What was said of a text.
-use Rattle.std.proofs.Common.{◌≡◌, ℕ, List, sym, subst}
+use Rattle.std.proofs.Common.{◌≡◌, ◌⊎◌, inl, inr, ℕ, List, [], ◌∷◌, Result, Ok, Err, refl, sym, ◌∙◌, subst}
 use Rattle.std.specs.declared.option.Option.{Option}
 use Rattle.ziti_outside.specs.Told.{Took, TookFront}
 use Rattle.ziti_outside.specs.Views.{Seen}
 use Rattle.run_notes.specs.NotedLines.{NotesLines}
 use Rattle.run_notes.proofs.NoteLaws.{notes_from}
 use Rattle.zitilook.specs.declared.status.Status.{Status}
-use Rattle.zitilook.specs.declared.status.Status.TheVariants.{Done, WriteFault, NoMemory}
-use Rattle.zitilook.specs.Looks.{Says, SaysText}
+use Rattle.zitilook.specs.declared.status.Status.TheVariants.{Done, Unknown, WriteFault, NoMemory}
+use Rattle.zitilook.specs.Looks.{Refuses, Says, SaysText, Tells, found}
 use Rattle.zitilook.specs.Notes.{notes_of}
 
 -- the notes of a status, since a desk that had noted the same
@@ -45,3 +45,37 @@ says_from text status a b c said q r says = record {
   says = subst (λ (x : Option (List ℕ)). Says status text x c.said) said says.says;
   notes = notes_from (notes_of status) a b c q r says.notes;
 }
+
+-- what was refused since a desk that had said and noted the same
+refused_from : (note : List ℕ) (status : Status) (a b c : Seen) → b.said ≡ a.said → b.noted ≡ a.noted → b.note_faults ≡ a.note_faults → Refuses note b c status
+    → Refuses note a c status
+refused_from note status a b c said q r refuses = record {
+  says_nothing = refuses.says_nothing ∙ said;
+  why = by refuses.why;
+}
+  where
+    by : ((status ≡ Unknown) × NotesLines note b c) ⊎ ((status ≡ NoMemory) × NotesLines (notes_of NoMemory) b c)
+        → ((status ≡ Unknown) × NotesLines note a c) ⊎ ((status ≡ NoMemory) × NotesLines (notes_of NoMemory) a c)
+    by (inl w) = inl (w.0, notes_from note a b c q r w.1)
+    by (inr w) = inr (w.0, notes_from (notes_of NoMemory) a b c q r w.1)
+
+-- what was told since such a desk
+pub tells_from : (told : Result (List ℕ) (List ℕ)) (status : Status) (a b c : Seen) → b.said ≡ a.said → b.noted ≡ a.noted → b.note_faults ≡ a.note_faults
+    → Tells told b c status → Tells told a c status
+tells_from (Ok text) status a b c said q r says = says_from text status a b c said q r says
+tells_from (Err note) status a b c said q r refuses = refused_from note status a b c said q r refuses
+
+-- there was no memory to make what is told
+pub untold : (told : Result (List ℕ) (List ℕ)) (status : Status) (a b : Seen) → status ≡ NoMemory → b.said ≡ a.said → NotesLines (notes_of NoMemory) a b → Tells told a b status
+untold (Ok text) status a b is same noted = text_unmade text status a b is same noted
+untold (Err note) status a b is same noted = record { says_nothing = same; why = inr (is, noted) }
+
+-- ---- a text that may be empty
+
+pub found_none : (note text : List ℕ) → text ≡ [] → found note text ≡ Err note
+found_none note [] is = refl
+found_none note (b ∷ bs) is = absurd cc
+
+pub found_some : (note text : List ℕ) → (text ≡ [] → ⊥) → found note text ≡ Ok text
+found_some note [] some = absurd (some refl)
+found_some note (b ∷ bs) some = refl

@@ -7,7 +7,7 @@ use Rattle.zitilook.specs.declared.words.Asked.{Asked}
 use Rattle.zitilook.specs.declared.words.Asked.TheVariants as asked
 use Rattle.zitilook.specs.declared.words.Page.TheVariants.{Help, Version}
 use Rattle.zitilook.specs.declared.words.Place.TheVariants.{Second, Third}
-use Rattle.zitilook.specs.Words.{asked_of, asked_pair, asked_who, asked_why, kind_of, listing, word_at}
+use Rattle.zitilook.specs.Words.{asked_alone, asked_of, asked_pair, asked_triple, asked_who, asked_why, kind_of, listing, showing, word_at}
 
 pub same_some : {A : Type 0} (x y : A) → Some x ≡ Some y → x ≡ y
 same_some x y is = cc
@@ -33,6 +33,14 @@ listing_no_why (Some l) is = absurd cc
 listing_no_who : (o : Option Listed) → listing o ≡ asked.Who → ⊥
 listing_no_who None is = absurd cc
 listing_no_who (Some l) is = absurd cc
+
+showing_no_why : (o : Option Listed) → showing o ≡ asked.Why → ⊥
+showing_no_why None is = absurd cc
+showing_no_why (Some l) is = absurd cc
+
+showing_no_who : (o : Option Listed) → showing o ≡ asked.Who → ⊥
+showing_no_who None is = absurd cc
+showing_no_who (Some l) is = absurd cc
 
 who_no_why : (service : List ℕ) → asked_who service ≡ asked.Why → ⊥
 who_no_why service is = by (branch (is_name service) asked.Who (asked.Misnamed Second) asked.Why is)
@@ -72,30 +80,37 @@ pair_no_why word next is =
     first (inl w) = listing_no_why (kind_of next) (same_some (listing (kind_of next)) asked.Why w.1)
     first (inr w) = second (branch (bytes_eq word (codes "who")) (Some (asked_who next)) None (Some asked.Why) w.1)
 
--- no one word asks for a page other than the two
-page_no : (asks : Asked) (word : List ℕ) → (asked.Tell Help ≡ asks → ⊥) → (asked.Tell Version ≡ asks → ⊥) → asked_of (word ∷ []) ≡ Some asks → ⊥
-page_no asks word no_help no_version is =
-    first (branch (bytes_eq word (codes "help")) (Some (asked.Tell Help)) (if bytes_eq word (codes "version") then Some (asked.Tell Version) else None) (Some asks) is)
+-- no one word asks for anything but a dump and the two pages
+alone_no : (asks : Asked) (word : List ℕ) → (asked.Tell Help ≡ asks → ⊥) → (asked.Tell Version ≡ asks → ⊥) → asked_of (word ∷ []) ≡ Some asks → ⊥
+alone_no asks word no_help no_version is =
+    second (branch (bytes_eq word (codes "help")) (Some (asked.Tell Help)) (if bytes_eq word (codes "version") then Some (asked.Tell Version) else None) (Some asks) is)
   where
-    second : ((bytes_eq word (codes "version") ≡ true) × (Some (asked.Tell Version) ≡ Some asks)) ⊎ ((bytes_eq word (codes "version") ≡ false) × (None ≡ Some asks)) → ⊥
-    second (inl w) = no_version (same_some (asked.Tell Version) asks w.1)
-    second (inr w) = none_some None asks refl w.1
+    third : ((bytes_eq word (codes "version") ≡ true) × (Some (asked.Tell Version) ≡ Some asks)) ⊎ ((bytes_eq word (codes "version") ≡ false) × (None ≡ Some asks)) → ⊥
+    third (inl w) = no_version (same_some (asked.Tell Version) asks w.1)
+    third (inr w) = none_some None asks refl w.1
 
-    first : ((bytes_eq word (codes "help") ≡ true) × (Some (asked.Tell Help) ≡ Some asks))
+    second : ((bytes_eq word (codes "help") ≡ true) × (Some (asked.Tell Help) ≡ Some asks))
         ⊎ ((bytes_eq word (codes "help") ≡ false) × ((if bytes_eq word (codes "version") then Some (asked.Tell Version) else None) ≡ Some asks)) → ⊥
-    first (inl w) = no_help (same_some (asked.Tell Help) asks w.1)
-    first (inr w) = second (branch (bytes_eq word (codes "version")) (Some (asked.Tell Version)) None (Some asks) w.1)
+    second (inl w) = no_help (same_some (asked.Tell Help) asks w.1)
+    second (inr w) = third (branch (bytes_eq word (codes "version")) (Some (asked.Tell Version)) None (Some asks) w.1)
 
 pub why_names : (words : List (List ℕ)) → asked_of words ≡ Some asked.Why → (is_name (word_at Second words) ≡ true) × (is_name (word_at Third words) ≡ true)
 why_names [] is = absurd (none_some None asked.Why refl is)
-why_names (word ∷ []) is = absurd (page_no asked.Why word (λ (e : asked.Tell Help ≡ asked.Why). absurd cc) (λ (e : asked.Tell Version ≡ asked.Why). absurd cc) is)
+why_names (word ∷ []) is = absurd (alone_no asked.Why word (λ (e : asked.Tell Help ≡ asked.Why). absurd cc) (λ (e : asked.Tell Version ≡ asked.Why). absurd cc) is)
 why_names (word ∷ next ∷ []) is = absurd (pair_no_why word next is)
-why_names (word ∷ next ∷ third ∷ []) is = by (branch (bytes_eq word (codes "why")) (Some (asked_why next third)) None (Some asked.Why) is)
+why_names (word ∷ next ∷ third ∷ []) is =
+    first (branch (bytes_eq word (codes "show")) (Some (showing (kind_of next))) (if bytes_eq word (codes "why") then Some (asked_why next third) else None) (Some asked.Why) is)
   where
-    by : ((bytes_eq word (codes "why") ≡ true) × (Some (asked_why next third) ≡ Some asked.Why)) ⊎ ((bytes_eq word (codes "why") ≡ false) × (None ≡ Some asked.Why))
+    second : ((bytes_eq word (codes "why") ≡ true) × (Some (asked_why next third) ≡ Some asked.Why)) ⊎ ((bytes_eq word (codes "why") ≡ false) × (None ≡ Some asked.Why))
         → (is_name next ≡ true) × (is_name third ≡ true)
-    by (inl w) = why_words next third (same_some (asked_why next third) asked.Why w.1)
-    by (inr w) = absurd (none_some None asked.Why refl w.1)
+    second (inl w) = why_words next third (same_some (asked_why next third) asked.Why w.1)
+    second (inr w) = absurd (none_some None asked.Why refl w.1)
+
+    first : ((bytes_eq word (codes "show") ≡ true) × (Some (showing (kind_of next)) ≡ Some asked.Why))
+        ⊎ ((bytes_eq word (codes "show") ≡ false) × ((if bytes_eq word (codes "why") then Some (asked_why next third) else None) ≡ Some asked.Why))
+        → (is_name next ≡ true) × (is_name third ≡ true)
+    first (inl w) = absurd (showing_no_why (kind_of next) (same_some (showing (kind_of next)) asked.Why w.1))
+    first (inr w) = second (branch (bytes_eq word (codes "why")) (Some (asked_why next third)) None (Some asked.Why) w.1)
 why_names (word ∷ next ∷ third ∷ fourth ∷ words) is = absurd (none_some None asked.Why refl is)
 
 -- ---- who
@@ -136,12 +151,19 @@ pair_who word next is =
 
 pub who_name : (words : List (List ℕ)) → asked_of words ≡ Some asked.Who → is_name (word_at Second words) ≡ true
 who_name [] is = absurd (none_some None asked.Who refl is)
-who_name (word ∷ []) is = absurd (page_no asked.Who word (λ (e : asked.Tell Help ≡ asked.Who). absurd cc) (λ (e : asked.Tell Version ≡ asked.Who). absurd cc) is)
+who_name (word ∷ []) is = absurd (alone_no asked.Who word (λ (e : asked.Tell Help ≡ asked.Who). absurd cc) (λ (e : asked.Tell Version ≡ asked.Who). absurd cc) is)
 who_name (word ∷ next ∷ []) is = pair_who word next is
-who_name (word ∷ next ∷ third ∷ []) is = by (branch (bytes_eq word (codes "why")) (Some (asked_why next third)) None (Some asked.Who) is)
+who_name (word ∷ next ∷ third ∷ []) is =
+    first (branch (bytes_eq word (codes "show")) (Some (showing (kind_of next))) (if bytes_eq word (codes "why") then Some (asked_why next third) else None) (Some asked.Who) is)
   where
-    by : ((bytes_eq word (codes "why") ≡ true) × (Some (asked_why next third) ≡ Some asked.Who)) ⊎ ((bytes_eq word (codes "why") ≡ false) × (None ≡ Some asked.Who))
+    second : ((bytes_eq word (codes "why") ≡ true) × (Some (asked_why next third) ≡ Some asked.Who)) ⊎ ((bytes_eq word (codes "why") ≡ false) × (None ≡ Some asked.Who))
         → is_name next ≡ true
-    by (inl w) = absurd (why_no_who next third (same_some (asked_why next third) asked.Who w.1))
-    by (inr w) = absurd (none_some None asked.Who refl w.1)
+    second (inl w) = absurd (why_no_who next third (same_some (asked_why next third) asked.Who w.1))
+    second (inr w) = absurd (none_some None asked.Who refl w.1)
+
+    first : ((bytes_eq word (codes "show") ≡ true) × (Some (showing (kind_of next)) ≡ Some asked.Who))
+        ⊎ ((bytes_eq word (codes "show") ≡ false) × ((if bytes_eq word (codes "why") then Some (asked_why next third) else None) ≡ Some asked.Who))
+        → is_name next ≡ true
+    first (inl w) = absurd (showing_no_who (kind_of next) (same_some (showing (kind_of next)) asked.Who w.1))
+    first (inr w) = second (branch (bytes_eq word (codes "why")) (Some (asked_why next third)) None (Some asked.Who) w.1)
 who_name (word ∷ next ∷ third ∷ fourth ∷ words) is = absurd (none_some None asked.Who refl is)

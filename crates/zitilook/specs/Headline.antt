@@ -1,20 +1,21 @@
 -- What a run promises (docs/PROMISES.md, "The program that looks").
-use Rattle.std.specs.Prelude.{◌≡◌, ◌⊎◌, ◌↔◌, ℕ, Bool, List, None, Some}
+use Rattle.std.specs.Prelude.{◌≡◌, ◌⊎◌, ◌↔◌, ℕ, Bool, List, None, Some, Ok}
 use Rattle.std.specs.declared.option.Option.{Option}
+use Rattle.std.specs.declared.result.Result.{Result}
 use Rattle.ziti_outside.specs.Views.{Seen, Stopped}
 use Rattle.ctrl_model.specs.State.{State}
 use Rattle.access_reasons.specs.ReasonLines.{lines_of as reason_lines}
 use Rattle.access_reasons.specs.Reasons.{who, why}
-use Rattle.record_lines.specs.RecordLines.{lines_of}
+use Rattle.record_lines.specs.RecordLines.{lines_asked, lines_of}
 use Rattle.run_notes.specs.NotedLines.{NotesLines}
 use Rattle.zitilook.specs.declared.words.Page.{Page}
 use Rattle.zitilook.specs.declared.words.Place.TheVariants.{Second, Third}
 use Rattle.zitilook.specs.declared.words.Asked.{Asked}
 use Rattle.zitilook.specs.declared.words.Asked.TheVariants as asked
 use Rattle.zitilook.specs.declared.status.Status.{Status}
-use Rattle.zitilook.specs.declared.status.Status.TheVariants.{Usage, Unknown, NoMemory}
-use Rattle.zitilook.specs.Looks.{SaysText, FindsNone, Looks, HasCauses, IsLeftAlone}
-use Rattle.zitilook.specs.Notes.{misnamed_note, notes_of, unknown_note}
+use Rattle.zitilook.specs.declared.status.Status.TheVariants.{Usage, NoMemory}
+use Rattle.zitilook.specs.Looks.{SaysText, FindsNone, Looks, Refuses, found, HasCauses, IsLeftAlone}
+use Rattle.zitilook.specs.Notes.{absent_note, misnamed_note, notes_of, unknown_note}
 use Rattle.zitilook.specs.Pages.{page_text}
 use Rattle.zitilook.specs.Words.{word_at}
 
@@ -23,16 +24,13 @@ pub record OnlyNotesLines (lines : List ℕ) (before now : Seen) : Type 0 where
   pub says_nothing : now.said ≡ before.said
   pub notes : NotesLines lines before now
 
--- A run that was asked for with a word that names nothing: that is noted, unless memory was wanting.
-pub record Refuses (note : List ℕ) (before now : Seen) (status : Status) : Type 0 where
-  pub says_nothing : now.said ≡ before.said
-  pub why : ((status ≡ Unknown) × NotesLines note before now) ⊎ ((status ≡ NoMemory) × NotesLines (notes_of NoMemory) before now)
-
--- What is said of a state to whoever asks so, if it is the folder's state that is asked about.
-abbrev pub told_of : (words : List (List ℕ)) → Asked → Option (State → List ℕ)
-told_of words (asked.List l) = Some (lines_of l)
-told_of words asked.Why = Some (λ s. reason_lines (why s (word_at Second words) (word_at Third words)))
-told_of words asked.Who = Some (λ s. reason_lines (who s (word_at Second words)))
+-- What is told of a state to whoever asks so, if it is the folder's state that is asked about: a text, or the note that no record has
+-- the name.
+abbrev pub told_of : (words : List (List ℕ)) → Asked → Option (State → Result (List ℕ) (List ℕ))
+told_of words (asked.List l) = Some (λ s. Ok (lines_of l s))
+told_of words (asked.Show l) = Some (λ s. found (absent_note (word_at Third words)) (lines_asked l (word_at Third words) s))
+told_of words asked.Why = Some (λ s. Ok (reason_lines (why s (word_at Second words) (word_at Third words))))
+told_of words asked.Who = Some (λ s. Ok (reason_lines (who s (word_at Second words))))
 told_of words asked.Unknown = None
 told_of words (asked.Misnamed place) = None
 told_of words (asked.Tell page) = None
@@ -47,17 +45,18 @@ refusal_of words _ = None
 --
 -- Usage comes exactly where they are no line. Then nothing is said, and the usage line is noted.
 -- What is asked of the folder's state is said of it: under `list KIND` the lines of its records of the kind, or those of its intercepts,
--- under `why IDENTITY SERVICE` the lines of the findings on the two, under `who SERVICE` those on all that may dial it. The folder is
--- opened by reading alone. Where it opens to no state, nothing is said, and why is noted. Where KIND is none, or a word is no name, no
+-- under `show KIND NAME` the line of the one of this name, under `dump` the lines of the commands that make the like of it, under
+-- `why IDENTITY SERVICE` those of the findings on the two, under `who SERVICE` those on all that may dial it. Where none has the name, it
+-- is noted. The folder is opened by reading alone. Where it opens to no state, nothing is said, and why is noted. Where KIND is none, or a word is no name, no
 -- folder is opened, and the word is noted.
 -- A page about the program is said without memory.
 -- A fault comes exactly where its count rose in this run. Whatever is asked for, the folder is left alone.
 pub record Runs {D : Type 0} (tells : Bool) (seen : D → Seen) (stopped : D → Stopped) (words : List (List ℕ)) (what : Option Asked) (desk desk_now : D) (status : Status) : Type 0 where
   pub usage : (status ≡ Usage) ↔ (what ≡ None)
   pub usage_note : what ≡ None → OnlyNotesLines (notes_of Usage) (seen desk) (seen desk_now)
-  pub looks : (asks : Asked) → what ≡ Some asks → (text : State → List ℕ) → told_of words asks ≡ Some text
+  pub looks : (asks : Asked) → what ≡ Some asks → (told : State → Result (List ℕ) (List ℕ)) → told_of words asks ≡ Some told
       → FindsNone tells (seen desk) (seen desk_now) status
-      ⊎ Looks text tells (seen desk) (seen desk_now) status
+      ⊎ Looks told tells (seen desk) (seen desk_now) status
   pub refuses : (asks : Asked) → what ≡ Some asks → (note : List ℕ) → refusal_of words asks ≡ Some note → Refuses note (seen desk) (seen desk_now) status
   pub pages : (page : Page) → what ≡ Some (asked.Tell page) → SaysText (page_text page) (seen desk) (seen desk_now) status
   pub pages_want_no_memory : (page : Page) → what ≡ Some (asked.Tell page) → status ≡ NoMemory → ⊥

@@ -1,6 +1,7 @@
 -- What a run said, and what it did to a folder that it looked at.
-use Rattle.std.specs.Prelude.{◌≡◌, ℕ, Bool, IsTrue, List}
+use Rattle.std.specs.Prelude.{◌≡◌, ◌⊎◌, ℕ, Bool, IsTrue, List, [], ◌∷◌, Ok, Err}
 use Rattle.std.specs.declared.option.Option.{Option}
+use Rattle.std.specs.declared.result.Result.{Result}
 use Rattle.ziti_outside.specs.declared.desk.Part.{Part}
 use Rattle.ziti_outside.specs.Told.{Took, TookFront}
 use Rattle.ziti_outside.specs.Causes.{Rose}
@@ -12,7 +13,7 @@ use Rattle.ctrl_model.specs.ValidState.{ValidState}
 use Rattle.row_store.specs.OpenedStates.{IsStateless, OpensToState}
 use Rattle.run_notes.specs.NotedLines.{NotesLines}
 use Rattle.zitilook.specs.declared.status.Status.{Status}
-use Rattle.zitilook.specs.declared.status.Status.TheVariants.{Done, WriteFault, DiskFault, Damaged, NoMemory}
+use Rattle.zitilook.specs.declared.status.Status.TheVariants.{Done, Unknown, WriteFault, DiskFault, Damaged, NoMemory}
 use Rattle.zitilook.specs.Notes.{damaged_note, notes_of}
 
 -- What a run that ended so has said of a text: all of it; a front of it where the say failed; and nothing where memory was wanting. The
@@ -41,12 +42,27 @@ pub record FindsNone (tells : Bool) (before now : Seen) (status : Status) : Type
   pub says_nothing : now.said ≡ before.said
   pub why : IsClosed tells before now status
 
--- A run that says a text of the state to which the folder opens.
-pub record Looks (text : State → List ℕ) (tells : Bool) (before now : Seen) (status : Status) : Type 0 where
+-- A run that was asked for with a word that names nothing: that is noted, unless memory was wanting.
+pub record Refuses (note : List ℕ) (before now : Seen) (status : Status) : Type 0 where
+  pub says_nothing : now.said ≡ before.said
+  pub why : ((status ≡ Unknown) × NotesLines note before now) ⊎ ((status ≡ NoMemory) × NotesLines (notes_of NoMemory) before now)
+
+-- What is told of a text that may be empty: the text, or a note where it is.
+abbrev pub found : (note text : List ℕ) → Result (List ℕ) (List ℕ)
+found note [] = Err note
+found note (b ∷ bs) = Ok (b ∷ bs)
+
+-- A run that tells so: it says a text, or notes that a word names nothing.
+abbrev pub Tells : Result (List ℕ) (List ℕ) → (before now : Seen) → Status → Type 0
+Tells (Ok text) before now status = SaysText text before now status
+Tells (Err note) before now status = Refuses note before now status
+
+-- A run that tells of the state to which the folder opens.
+pub record Looks (told : State → Result (List ℕ) (List ℕ)) (tells : Bool) (before now : Seen) (status : Status) : Type 0 where
   pub state : State
   pub valid : ValidState state
   pub opens : IsTrue tells → OpensToState before.reads state
-  pub says : SaysText (text state) before now status
+  pub says : Tells (told state) before now status
 
 -- A fault comes exactly where its count rose.
 pub record HasCauses (before now : Seen) (status : Status) : Type 0 where

@@ -12,7 +12,7 @@ note_of told = codes "zitilook: " ++ (told ++ codes "\n")
 -- The note of a status that tells nothing else.
 abbrev pub notes_of : Status → List ℕ
 notes_of Done = []
-notes_of Usage = note_of (codes "usage: zitilook list KIND | why IDENTITY SERVICE | who SERVICE | help | version")
+notes_of Usage = note_of (codes "usage: zitilook list KIND | show KIND NAME | why IDENTITY SERVICE | who SERVICE | help | version")
 notes_of Unknown = []
 notes_of WriteFault = note_of (codes "write fault")
 notes_of DiskFault = note_of (codes "disk fault")
@@ -22,6 +22,10 @@ notes_of NoMemory = note_of (codes "no memory")
 -- The note of a word that names no kind.
 abbrev pub unknown_note : List ℕ → List ℕ
 unknown_note word = codes "zitilook: unknown kind: " ++ (word ++ codes "\n")
+
+-- The note of a name that none of what is listed has.
+abbrev pub absent_note : List ℕ → List ℕ
+absent_note name = codes "zitilook: no record: " ++ (name ++ codes "\n")
 
 -- The note of a word that is to name a record and is no name.
 abbrev pub misnamed_note : List ℕ → List ℕ

@@ -8,9 +8,10 @@ abbrev pub page_text : Page → List ℕ
 page_text Help =
     codes "usage: zitilook WORD, in the folder that is looked at\n"
     ++ (codes "list KIND             the records of a kind, a line each\n"
+    ++ (codes "show KIND NAME        one of them by its name; terminators and circuits by their numbers\n"
     ++ (codes "why IDENTITY SERVICE  each rule of a circuit of the two, and what meets or fails it\n"
     ++ (codes "who SERVICE           the identities that may dial a service, and the policies that grant it\n"
     ++ (codes "help                  these lines\n"
     ++ (codes "version               the version of the lines\n"
-    ++ codes "KIND is identities, services, routers, links, service-policies, edge-router-policies, service-edge-router-policies, terminators, circuits or intercepts\n")))))
+    ++ codes "KIND is identities, services, routers, links, service-policies, edge-router-policies, service-edge-router-policies, terminators, circuits or intercepts\n"))))))
 page_text Version = codes "zitilook 1\n"

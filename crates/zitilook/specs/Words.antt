@@ -45,20 +45,35 @@ asked_why identity service =
     if not (is_name identity) then asked.Misnamed Second
     else if not (is_name service) then asked.Misnamed Third else asked.Why
 
+-- What is asked for with the name of one of what is listed, if there is such.
+abbrev pub showing : Option Listed → Asked
+showing None = asked.Unknown
+showing (Some l) = asked.Show l
+
+-- What one word asks for, if it is a line of the table of words.
+abbrev pub asked_alone : List ℕ → Option Asked
+asked_alone word =
+    if bytes_eq word (codes "help") then Some (asked.Tell Help)
+    else if bytes_eq word (codes "version") then Some (asked.Tell Version) else None
+
 -- What two words ask for, if they are a line of the table of words.
 abbrev pub asked_pair : (word next : List ℕ) → Option Asked
 asked_pair word next =
     if bytes_eq word (codes "list") then Some (listing (kind_of next))
     else if bytes_eq word (codes "who") then Some (asked_who next) else None
 
+-- What three words ask for, if they are a line of the table of words.
+abbrev pub asked_triple : (word next third : List ℕ) → Option Asked
+asked_triple word next third =
+    if bytes_eq word (codes "show") then Some (showing (kind_of next))
+    else if bytes_eq word (codes "why") then Some (asked_why next third) else None
+
 -- What the words ask for, if they are a line of the table of words.
 abbrev pub asked_of : List (List ℕ) → Option Asked
 asked_of [] = None
-asked_of (word ∷ []) =
-    if bytes_eq word (codes "help") then Some (asked.Tell Help)
-    else if bytes_eq word (codes "version") then Some (asked.Tell Version) else None
+asked_of (word ∷ []) = asked_alone word
 asked_of (word ∷ next ∷ []) = asked_pair word next
-asked_of (word ∷ next ∷ third ∷ []) = if bytes_eq word (codes "why") then Some (asked_why next third) else None
+asked_of (word ∷ next ∷ third ∷ []) = asked_triple word next third
 asked_of (word ∷ next ∷ third ∷ fourth ∷ words) = None
 
 -- The word at a place; none where there is none.

@@ -1,7 +1,7 @@
 ghost use Rattle.std.specs.Prelude.{◌≡◌, IfOk, decimal, length};
 ghost use Rattle.std.specs.String.{string_bytes};
 ghost use Rattle.run_notes.specs.Notes.{file_number};
-ghost use Rattle.zitilook.specs.Notes.{damaged_note, misnamed_note, notes_of, unknown_note};
+ghost use Rattle.zitilook.specs.Notes.{absent_note, damaged_note, misnamed_note, notes_of, unknown_note};
 
 use crate::status::Status;
 use arrayvec::ArrayString;
@@ -15,7 +15,7 @@ pub fn status_note(status: Status) -> &'static [u8]
 {
     match status {
         Status::Usage =>
-            b"zitilook: usage: zitilook list KIND | why IDENTITY SERVICE | who SERVICE | help | version\n",
+            b"zitilook: usage: zitilook list KIND | show KIND NAME | why IDENTITY SERVICE | who SERVICE | help | version\n",
         Status::WriteFault => b"zitilook: write fault\n",
         Status::DiskFault => b"zitilook: disk fault\n",
         Status::NoMemory => b"zitilook: no memory\n",
@@ -28,6 +28,13 @@ pub fn unknown_note(alloc: Global, word: &str) -> Result<String, AllocError>
     ensures { IfOk result (λ note. string_bytes note ≡ unknown_note word.now) }
 {
     format!(in alloc; "zitilook: unknown kind: {word}\n")
+}
+
+/// The note of a name that none of what is listed has.
+pub fn absent_note(alloc: Global, name: &str) -> Result<String, AllocError>
+    ensures { IfOk result (λ note. string_bytes note ≡ absent_note name.now) }
+{
+    format!(in alloc; "zitilook: no record: {name}\n")
 }
 
 /// The note of a word that is to name a record and is no name.

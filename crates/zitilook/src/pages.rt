@@ -10,6 +10,7 @@ pub fn page_text(page: Page) -> &'static [u8]
     match page {
         Page::Help => b"usage: zitilook WORD, in the folder that is looked at\n\
               list KIND             the records of a kind, a line each\n\
+              show KIND NAME        one of them by its name; terminators and circuits by their numbers\n\
               why IDENTITY SERVICE  each rule of a circuit of the two, and what meets or fails it\n\
               who SERVICE           the identities that may dial a service, and the policies that grant it\n\
               help                  these lines\n\

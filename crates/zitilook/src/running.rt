@@ -2,18 +2,18 @@ ghost use Rattle.std.specs.Prelude.{◌≡◌, ◌⊎◌, ◌≢◌, ℕ, List, 
 ghost use Rattle.std.specs.String.{string_bytes};
 ghost use Rattle.ziti_outside.specs.Untouched.{OnlyNotes};
 ghost use Rattle.run_notes.specs.NotedLines.{FindsNoMore, NotesLines};
-ghost use Rattle.zitilook.specs.Headline.{Refuses, Runs};
-ghost use Rattle.zitilook.specs.LookedTexts.{HasNames, text_of};
-ghost use Rattle.zitilook.specs.Looks.{FindsNone, Looks, SaysText};
-ghost use Rattle.zitilook.specs.Notes.{damaged_note as note_of_damage, notes_of};
+ghost use Rattle.zitilook.specs.Headline.{Runs};
+ghost use Rattle.zitilook.specs.LookedTexts.{HasNames, asked_name as asked, told_by, told_under};
+ghost use Rattle.zitilook.specs.Looks.{FindsNone, Looks, Refuses, SaysText, Tells, found};
+ghost use Rattle.zitilook.specs.Notes.{absent_note as note_of_absence, damaged_note as note_of_damage, notes_of};
 ghost use Rattle.zitilook.specs.OpenedRows.{MayClose};
 ghost use Rattle.zitilook.specs.Steps.{EndsSo, TellsClosed};
 ghost use Rattle.zitilook.specs.Words.{asked_of};
 
-use crate::notes::{damaged_note, misnamed_note, status_note, unknown_note};
+use crate::notes::{absent_note, damaged_note, misnamed_note, status_note, unknown_note};
 use crate::pages::page_text;
 use crate::status::Status;
-use crate::telling::{Look, text_of};
+use crate::telling::{Look, asked_name, text_of};
 use crate::words::{Asked, Place, asked_of, word_at};
 use ctrl_keep::{KeepFault, peek_rows};
 use ctrl_model::Bytes;
@@ -82,24 +82,6 @@ fn tell_closed<D: Desk>(fault: KeepFault, desk: &mut D) -> Status
     }
 }
 
-// Says the text that is asked for of the state to which the folder opens, by reading it alone. Where it opens to none, that is noted and
-// nothing is said.
-fn run_look<D: Desk>(alloc: Global, look: &Look, desk: &mut D) -> Status
-    requires { HasNames look.now }
-    ensures looks { FindsNone D.tells (D.seen desk.old) (D.seen desk.new) result
-        ⊎ Looks (text_of look.now) D.tells (D.seen desk.old) (D.seen desk.new) result }
-    ensures ends { EndsSo D.seen D.stopped desk.old desk.new result }
-{
-    match peek_rows(alloc, desk) {
-        Ok(read) => {
-            let (core, format, puts) = read;
-            let text = text_of(alloc, look, core, format, puts);
-            say_made(text, desk)
-        }
-        Err(fault) => tell_closed(fault, desk),
-    }
-}
-
 // Notes a word that names nothing, unless there was no memory for the note.
 fn tell_refused<D: Desk>(note: Result<String, AllocError>, desk: &mut D) -> Status
     ensures told { (wanted : List ℕ) → IfOk note (λ n. string_bytes n ≡ wanted) → Refuses wanted (D.seen desk.old) (D.seen desk.new) result }
@@ -114,6 +96,67 @@ fn tell_refused<D: Desk>(note: Result<String, AllocError>, desk: &mut D) -> Stat
     }
 }
 
+// Says a text, or notes that none has the name where it is empty.
+fn say_found<D: Desk>(alloc: Global, name: &str, text: &[u8], desk: &mut D) -> Status
+    ensures tells { Tells (found (note_of_absence name.now) text.now) (D.seen desk.old) (D.seen desk.new) result }
+    ensures ends { EndsSo D.seen D.stopped desk.old desk.new result }
+{
+    if text.is_empty() {
+        return tell_refused(absent_note(alloc, name), desk);
+    }
+    say_text(text, desk)
+}
+
+// Says a text, unless there was no memory to make it, or notes that none has the name where it is empty.
+fn say_found_made<D: Desk>(
+    alloc: Global,
+    name: &str,
+    made: Result<Bytes, AllocError>,
+    desk: &mut D,
+) -> Status
+    ensures tells { (wanted : List ℕ) → IfOk made (λ t. t ≡ wanted) → Tells (found (note_of_absence name.now) wanted) (D.seen desk.old) (D.seen desk.new) result }
+    ensures ends { EndsSo D.seen D.stopped desk.old desk.new result }
+{
+    match made {
+        Ok(text) => say_found(alloc, name, text.as_slice(), desk),
+        Err(_) => end_with(Status::NoMemory, desk),
+    }
+}
+
+// Tells a text that was asked for, unless there was no memory to make it.
+fn tell_made<D: Desk>(
+    alloc: Global,
+    look: &Look,
+    made: Result<Bytes, AllocError>,
+    desk: &mut D,
+) -> Status
+    ensures tells { (wanted : List ℕ) → IfOk made (λ t. t ≡ wanted) → Tells (told_under (asked look.now) wanted) (D.seen desk.old) (D.seen desk.new) result }
+    ensures ends { EndsSo D.seen D.stopped desk.old desk.new result }
+{
+    match asked_name(look) {
+        Some(name) => say_found_made(alloc, name, made, desk),
+        None => say_made(made, desk),
+    }
+}
+
+// Tells what is asked for of the state to which the folder opens, by reading it alone. Where it opens to none, that is noted and
+// nothing is said.
+fn run_look<D: Desk>(alloc: Global, look: &Look, desk: &mut D) -> Status
+    requires { HasNames look.now }
+    ensures looks { FindsNone D.tells (D.seen desk.old) (D.seen desk.new) result
+        ⊎ Looks (told_by look.now) D.tells (D.seen desk.old) (D.seen desk.new) result }
+    ensures ends { EndsSo D.seen D.stopped desk.old desk.new result }
+{
+    match peek_rows(alloc, desk) {
+        Ok(read) => {
+            let (core, format, puts) = read;
+            let text = text_of(alloc, look, core, format, puts);
+            tell_made(alloc, look, text, desk)
+        }
+        Err(fault) => tell_closed(fault, desk),
+    }
+}
+
 // Looks, or notes which word names nothing, or says a page: what is asked for with some words.
 fn run_asked<D: Desk>(alloc: Global, asked: Asked, words: &[String], desk: &mut D) -> Status
     requires { asked_of (map string_bytes words.now) ≡ Some asked }
@@ -123,6 +166,16 @@ fn run_asked<D: Desk>(alloc: Global, asked: Asked, words: &[String], desk: &mut 
     let third = word_at(Place::Third, words);
     match asked {
         Asked::List(listed) => run_look(alloc, &Look::Lines(listed), desk),
+        Asked::Show(listed) => {
+            run_look(
+                alloc,
+                &Look::Line {
+                    listed,
+                    name: third,
+                },
+                desk,
+            )
+        }
         Asked::Why => run_look(
             alloc,
             &Look::Why {

@@ -8,7 +8,7 @@ pub enum Status {
     Done,
     /// The words are no line of the table of words.
     Usage,
-    /// The words name a kind that there is not, or are no names.
+    /// The words name a kind or a record that there is not, or are no names.
     Unknown,
     /// The desk failed to take what was said.
     WriteFault,

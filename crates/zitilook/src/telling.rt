@@ -1,18 +1,19 @@
 ghost use Rattle.std.specs.Prelude.{◌≡◌, true, IfOk};
+ghost use Rattle.std.specs.Option.{option_map};
 ghost use Rattle.ctrl_model.specs.NameForm.{is_name};
 ghost use Rattle.ctrl_model.specs.ValidState.{ValidState};
 ghost use Rattle.access_reasons.specs.ReasonLines.{lines_of as reason_lines};
 ghost use Rattle.access_reasons.specs.Reasons.{who, why};
 ghost use Rattle.access_reasons.specs.StateStores.{AreStoresOf};
-ghost use Rattle.record_lines.specs.RecordLines.{lines_of};
-ghost use Rattle.zitilook.specs.LookedTexts.{HasNames, text_of};
+ghost use Rattle.record_lines.specs.RecordLines.{lines_asked, lines_of};
+ghost use Rattle.zitilook.specs.LookedTexts.{HasNames, asked_name, text_of};
 ghost use Rattle.zitilook.specs.OpenedRows.{IsOpened};
 
 use crate::opening::rows_of;
 use access_reasons::{Stores, lines, who, why};
 use ctrl_core::Core;
 use ctrl_model::{Bytes, Format, Name, NameFault, Relation};
-use record_lines::{Listed, list};
+use record_lines::{Listed, list, show};
 use row_codec::Batch;
 use std::alloc::{AllocError, Global};
 
@@ -21,10 +22,22 @@ use std::alloc::{AllocError, Global};
 pub enum Look<'a> {
     /// The lines of the records of a kind, or of the intercepts.
     Lines(Listed),
+    /// The line of one of them, by its name, or by its number where it has none.
+    Line { listed: Listed, name: &'a str },
     /// The lines on why an identity can or cannot reach a service, by their names.
     Why { identity: &'a str, service: &'a str },
     /// The lines on who is granted Dial on a service, by its name.
     Who { service: &'a str },
+}
+
+/// The name by which one record is asked for, if one is.
+pub fn asked_name<'a>(look: &Look<'a>) -> Option<&'a str>
+    ensures { option_map (λ n. n.now) result ≡ asked_name look.now }
+{
+    match look {
+        Look::Line { name, .. } => Some(name),
+        _ => None,
+    }
 }
 
 // The name that a word is.
@@ -101,6 +114,23 @@ fn list_of(
     list(alloc, rows.as_slice(), listed)
 }
 
+// The line of one of what is listed of what a folder opened to, which is let go.
+fn show_of(
+    alloc: Global,
+    core: Core,
+    format: Format,
+    puts: Batch,
+    listed: Listed,
+    name: &str,
+) -> Result<Bytes, AllocError>
+    requires { IsOpened core format puts }
+    ensures { IfOk result (λ text. text ≡ lines_asked listed name.now core.state) }
+{
+    drop(core);
+    let rows = rows_of(alloc, format, &puts)?;
+    show(alloc, rows.as_slice(), listed, name.as_bytes())
+}
+
 // The lines on why an identity can or cannot reach a service in the state of a core, which is let go.
 fn why_of(alloc: Global, core: Core, identity: &str, service: &str) -> Result<Bytes, AllocError>
     requires live { core.live ≡ true }
@@ -139,6 +169,7 @@ pub fn text_of(
 {
     match look {
         Look::Lines(listed) => list_of(alloc, core, format, puts, *listed),
+        Look::Line { listed, name } => show_of(alloc, core, format, puts, *listed, name),
         Look::Why { identity, service } => why_of(alloc, core, identity, service),
         Look::Who { service } => who_of(alloc, core, service),
     }

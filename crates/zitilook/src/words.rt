@@ -1,6 +1,6 @@
 ghost use Rattle.std.specs.Prelude.{◌≡◌, map};
 ghost use Rattle.std.specs.String.{string_bytes};
-ghost use Rattle.zitilook.specs.Words.{asked_of, asked_pair, asked_who, asked_why, kind_of, listing, word_at};
+ghost use Rattle.zitilook.specs.Words.{asked_alone, asked_of, asked_pair, asked_triple, asked_who, asked_why, kind_of, listing, showing, word_at};
 
 use ctrl_model::{Kind, Name};
 use record_lines::Listed;
@@ -10,6 +10,8 @@ use record_lines::Listed;
 pub enum Asked {
     /// The lines of the records of a kind, or of the intercepts.
     List(Listed),
+    /// The line of one record or intercept, which the third word names.
+    Show(Listed),
     /// Why an identity can or cannot reach a service, which the second and the third word name.
     Why,
     /// Who is granted Dial on a service, which the second word names.
@@ -71,6 +73,16 @@ fn listing(listed: Option<Listed>) -> Asked
     }
 }
 
+// What is asked for with the name of one of what is listed, if there is such.
+fn showing(listed: Option<Listed>) -> Asked
+    ensures { result ≡ showing listed }
+{
+    match listed {
+        Some(listed) => Asked::Show(listed),
+        None => Asked::Unknown,
+    }
+}
+
 // What is asked for with the name of a service, if the word is a name.
 fn asked_who(service: &str) -> Asked
     ensures { result ≡ asked_who service.now }
@@ -95,6 +107,17 @@ fn asked_why(identity: &str, service: &str) -> Asked
     }
 }
 
+// What one word asks for: `help` or `version`.
+fn asked_alone(word: &str) -> Option<Asked>
+    ensures { result ≡ asked_alone word.now }
+{
+    match word.as_bytes() {
+        name if name == b"help".as_slice() => Some(Asked::Tell(Page::Help)),
+        name if name == b"version".as_slice() => Some(Asked::Tell(Page::Version)),
+        _ => None,
+    }
+}
+
 // What two words ask for: `list KIND` or `who SERVICE`.
 fn asked_pair(word: &str, next: &str) -> Option<Asked>
     ensures { result ≡ asked_pair word.now next.now }
@@ -106,18 +129,26 @@ fn asked_pair(word: &str, next: &str) -> Option<Asked>
     }
 }
 
-/// What the words ask for, if they are a line of the table of words: `list KIND`, `why IDENTITY SERVICE`, `who SERVICE`, `help` or
-/// `version`.
+// What three words ask for: `show KIND NAME` or `why IDENTITY SERVICE`.
+fn asked_triple(word: &str, next: &str, third: &str) -> Option<Asked>
+    ensures { result ≡ asked_triple word.now next.now third.now }
+{
+    match word.as_bytes() {
+        name if name == b"show".as_slice() => Some(showing(kind_of(next.as_bytes()))),
+        name if name == b"why".as_slice() => Some(asked_why(next, third)),
+        _ => None,
+    }
+}
+
+/// What the words ask for, if they are a line of the table of words: `list KIND`, `show KIND NAME`, `why IDENTITY SERVICE`,
+/// `who SERVICE`, `help` or `version`.
 pub fn asked_of(words: &[String]) -> Option<Asked>
     ensures { result ≡ asked_of (map string_bytes words.now) }
 {
     match words {
-        [word] if word.as_bytes() == b"help".as_slice() => Some(Asked::Tell(Page::Help)),
-        [word] if word.as_bytes() == b"version".as_slice() => Some(Asked::Tell(Page::Version)),
+        [word] => asked_alone(word.as_str()),
         [word, next] => asked_pair(word.as_str(), next.as_str()),
-        [word, next, third] if word.as_bytes() == b"why".as_slice() => {
-            Some(asked_why(next.as_str(), third.as_str()))
-        }
+        [word, next, third] => asked_triple(word.as_str(), next.as_str(), third.as_str()),
         _ => None,
     }
 }

@@ -1,11 +1,12 @@
-ghost use Rattle.std.specs.Prelude.{◌≡◌, [], ◌∷◌, codes, None, Some};
+ghost use Rattle.std.specs.Prelude.{◌≡◌, [], ◌∷◌, codes, None, Some, Ok, Err};
 ghost use Rattle.ctrl_model.specs.declared.kinds.Kind.TheVariants as kind;
 ghost use Rattle.ziti_outside.specs.declared.desk.Part.TheVariants.{Zero};
 ghost use Rattle.record_lines.specs.declared.listing.Listed.TheVariants.{Intercepts, Records};
-ghost use Rattle.zitilook.specs.declared.words.Asked.TheVariants.{List as Lists, Why, Who, Unknown, Misnamed, Tell};
+ghost use Rattle.zitilook.specs.declared.words.Asked.TheVariants.{List as Lists, Show, Why, Who, Unknown, Misnamed, Tell};
 ghost use Rattle.zitilook.specs.declared.words.Page.TheVariants.{Help, Version};
 ghost use Rattle.zitilook.specs.declared.words.Place.TheVariants.{Second, Third};
-ghost use Rattle.zitilook.specs.Notes.{damaged_note, misnamed_note, unknown_note};
+ghost use Rattle.zitilook.specs.Looks.{found};
+ghost use Rattle.zitilook.specs.Notes.{absent_note, damaged_note, misnamed_note, unknown_note};
 ghost use Rattle.zitilook.specs.Words.{asked_of, word_at};
 
 /// What words ask for.
@@ -21,6 +22,10 @@ pub fn worked_words()
     ensures circuits { asked_of (codes "list" ∷ codes "circuits" ∷ []) ≡ Some (Lists (Records kind.Circuit)) }
     ensures intercepts { asked_of (codes "list" ∷ codes "intercepts" ∷ []) ≡ Some (Lists Intercepts) }
     ensures unknown { asked_of (codes "list" ∷ codes "identity" ∷ []) ≡ Some Unknown }
+    ensures show { asked_of (codes "show" ∷ codes "links" ∷ codes "l1" ∷ []) ≡ Some (Show (Records kind.Link)) }
+    ensures show_any_word { asked_of (codes "show" ∷ codes "intercepts" ∷ codes "w b" ∷ []) ≡ Some (Show Intercepts) }
+    ensures show_unknown { asked_of (codes "show" ∷ codes "link" ∷ codes "l1" ∷ []) ≡ Some Unknown }
+    ensures show_alone { asked_of (codes "show" ∷ codes "links" ∷ []) ≡ None }
     ensures why { asked_of (codes "why" ∷ codes "ann" ∷ codes "web" ∷ []) ≡ Some Why }
     ensures who { asked_of (codes "who" ∷ codes "web" ∷ []) ≡ Some Who }
     ensures no_identity { asked_of (codes "why" ∷ codes "a b" ∷ codes "w b" ∷ []) ≡ Some (Misnamed Second) }
@@ -38,8 +43,11 @@ pub fn worked_words()
 /// What is noted.
 pub fn worked_notes()
     ensures unknown { unknown_note (word_at Second (codes "list" ∷ codes "identity" ∷ [])) ≡ codes "zitilook: unknown kind: identity\n" }
+    ensures absent { absent_note (word_at Third (codes "show" ∷ codes "links" ∷ codes "l9" ∷ [])) ≡ codes "zitilook: no record: l9\n" }
+    ensures none_found { found (codes "n") [] ≡ Err (codes "n") }
+    ensures found { found (codes "n") (codes "t") ≡ Ok (codes "t") }
     ensures second { misnamed_note (word_at Second (codes "who" ∷ codes "w b" ∷ [])) ≡ codes "zitilook: no name: w b\n" }
     ensures third { misnamed_note (word_at Third (codes "why" ∷ codes "ann" ∷ [] ∷ [])) ≡ codes "zitilook: no name: \n" }
-    ensures absent { word_at Third (codes "who" ∷ codes "web" ∷ []) ≡ [] }
+    ensures no_word { word_at Third (codes "who" ∷ codes "web" ∷ []) ≡ [] }
     ensures damaged { damaged_note Zero 8 ≡ codes "zitilook: damaged: file 0 at 8\n" }
 {}

@@ -1,13 +1,30 @@
-use Rattle.std.proofs.Common.{ℕ, List, Some, map, refl, sym, subst}
+use Rattle.std.proofs.Common.{◌⊎◌, ℕ, List, Some, map, refl, sym, subst}
 use Rattle.std.specs.String.{string_bytes}
 use Rattle.zitilook.specs.declared.words.Asked.{Asked}
 use Rattle.zitilook.specs.declared.words.Asked.TheVariants as asked
-use Rattle.zitilook.specs.declared.words.Place.TheVariants.{Second}
-use Rattle.zitilook.specs.Headline.{Refuses, Runs}
-use Rattle.zitilook.specs.Notes.{misnamed_note, unknown_note}
+use Rattle.zitilook.specs.declared.words.Place.TheVariants.{Second, Third}
+use Rattle.zitilook.specs.Headline.{Runs}
+use Rattle.zitilook.specs.Looks.{FindsNone, Looks, Refuses, found}
+use Rattle.record_lines.specs.RecordLines.{lines_asked}
+use Rattle.zitilook.specs.Notes.{absent_note, misnamed_note, unknown_note}
 use Rattle.zitilook.specs.Words.{word_at}
-use Rattle.zitilook.proofs.RunLaws.{refused_runs}
+use Rattle.zitilook.proofs.RunLaws.{look_runs, refused_runs}
 use Rattle.zitilook.proofs.running.run_asked.Goals as goal
+
+pub returns-in-Show : goal.returns-in-Show
+returns-in-Show g c =
+    let d = g.D.Desk in
+    let words = map string_bytes c.args.words.now in
+    let listed = c.in-Show.listed in
+    let e = c.run_look-in-Show.ensures in
+    let looks = subst (λ (w : List ℕ). FindsNone d.tells (d.seen c.args.desk.now) (d.seen c.run_look-in-Show.new.desk) c.run_look-in-Show.result
+    ⊎ Looks (λ s. found (absent_note w) (lines_asked listed w s)) d.tells (d.seen c.args.desk.now) (d.seen c.run_look-in-Show.new.desk) c.run_look-in-Show.result)
+    c.word_at-third.ensures e.looks in
+    record {
+      runs = subst (λ (a : Asked). Runs d.tells d.seen d.stopped words (Some a) c.args.desk.now c.run_look-in-Show.new.desk c.run_look-in-Show.result) (sym c.in-Show.is)
+          (look_runs d.tells d.seen d.stopped words (asked.Show listed) (λ s. found (absent_note (word_at Third words)) (lines_asked listed (word_at Third words) s))
+          c.args.desk.now c.run_look-in-Show.new.desk c.run_look-in-Show.result refl refl looks e.ends);
+    }
 
 pub returns-in-Unknown : goal.returns-in-Unknown
 returns-in-Unknown g c =

@@ -1,8 +1,8 @@
 use Rattle.std.proofs.Common.{inl, inr}
-use Rattle.zitilook.specs.LookedTexts.{text_of}
+use Rattle.zitilook.specs.LookedTexts.{asked_name, text_of, told_under}
 use Rattle.zitilook.proofs.FolderLaws.{read_ends}
 use Rattle.zitilook.proofs.OpenedLaws.{closed_finds}
-use Rattle.zitilook.proofs.SaidLaws.{says_from}
+use Rattle.zitilook.proofs.SaidLaws.{tells_from}
 use Rattle.zitilook.proofs.running.run_look.Goals as goal
 
 pub returns-in-Ok-clause-looks : goal.returns-in-Ok-clause-looks
@@ -14,14 +14,14 @@ returns-in-Ok-clause-looks g c =
       state = s;
       valid = c.in-Ok.ensures.valid;
       opens = c.in-Ok.ensures.opens;
-      says = says_from text c.say_made.result (g.D.Desk.seen c.args.desk.now) (g.D.Desk.seen c.peek_rows.new.desk) (g.D.Desk.seen c.say_made.new.desk)
-          o.replies o.notes o.failed_notes (c.say_made.ensures.says text c.text_of-text.ensures);
+      says = tells_from (told_under (asked_name c.args.look.now) text) c.tell_made.result (g.D.Desk.seen c.args.desk.now) (g.D.Desk.seen c.peek_rows.new.desk) (g.D.Desk.seen c.tell_made.new.desk)
+          o.replies o.notes o.failed_notes (c.tell_made.ensures.tells text c.text_of-text.ensures);
     })
 
 pub returns-in-Ok-clause-ends : goal.returns-in-Ok-clause-ends
 returns-in-Ok-clause-ends g c =
-    read_ends g.D.Desk.seen g.D.Desk.stopped c.args.desk.now c.peek_rows.new.desk c.say_made.new.desk c.say_made.result
-    c.peek_rows.ensures.reads c.in-Ok.ensures.cause.calm c.say_made.ensures.ends
+    read_ends g.D.Desk.seen g.D.Desk.stopped c.args.desk.now c.peek_rows.new.desk c.tell_made.new.desk c.tell_made.result
+    c.peek_rows.ensures.reads c.in-Ok.ensures.cause.calm c.tell_made.ensures.ends
 
 pub returns-in-Err-clause-looks : goal.returns-in-Err-clause-looks
 returns-in-Err-clause-looks g c =
