@@ -1,7 +1,7 @@
 //! Folders with a byte changed, cut off or made up: where they are damaged, and to what the others open.
 
+use crate::checks::{answers, has_slot, holds, ran};
 use ctrl_serve::Status;
-use run_checks::{answers, has_slot, holds, ran};
 use sample_runs::{ANN_KEPT, FIRST, GRANT_KEPT, How, WEB_KEPT, slot_of};
 use std::alloc::{AllocError, Global};
 use std::process::Abort;

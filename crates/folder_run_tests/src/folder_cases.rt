@@ -1,7 +1,7 @@
 //! Runs on folders, a case a line: the looks, the compactions, the advice on folders that keep nothing, how replays end, and what is damaged.
 
+use crate::checks::{Ended, has_parts, holds, ran};
 use ctrl_serve::Status;
-use run_checks::{Ended, has_parts, holds, ran};
 use sample_runs::{How, bytes_of, folder_of, notes_of, parts_in};
 use std::alloc::{AllocError, Global};
 use std::process::Abort;

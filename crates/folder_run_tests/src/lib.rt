@@ -3,6 +3,8 @@
 #![tactic(auto)]
 
 #[cfg(test)]
+mod checks;
+#[cfg(test)]
 mod damaged_folders;
 #[cfg(test)]
 mod folder_cases;

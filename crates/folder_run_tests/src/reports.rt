@@ -1,7 +1,7 @@
 //! Advice on two names by a folder that keeps a line of routers and some more rows, and the counts line of one that keeps a network.
 
+use crate::checks::{EMPTY, answers, has_parts, holds, ran};
 use ctrl_serve::Status;
-use run_checks::{EMPTY, answers, has_parts, holds, ran};
 use sample_runs::{How, bytes_of, parts_of};
 use std::alloc::{AllocError, Global};
 use std::process::Abort;

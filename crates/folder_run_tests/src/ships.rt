@@ -1,7 +1,7 @@
 //! What is shipped of folders of either format, and runs that ship in which each call fails in turn.
 
+use crate::checks::{Ended, desk_on, has_parts, has_told, holds, is_status, ran, run_words};
 use ctrl_serve::Status;
-use run_checks::{Ended, desk_on, has_parts, has_told, holds, is_status, ran, run_words};
 use sample_runs::{How, folder_of, notes_of, parts_in};
 use std::alloc::{AllocError, Global};
 use std::process::Abort;

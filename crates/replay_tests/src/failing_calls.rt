@@ -1,8 +1,7 @@
 //! Runs in which each call of the desk fails in turn: how they end, what is said and noted, and to what the folder then opens.
 
-use crate::checks::identities_in;
+use crate::checks::{desk_on, has_told, holds, identities_in, is_status, run_words};
 use ctrl_serve::Status;
-use run_checks::{desk_on, has_told, holds, is_status, run_words};
 use sample_runs::{How, bytes_of, folder_of, parts_in, parts_of};
 use std::alloc::{AllocError, Global};
 use std::process::Abort;

@@ -1,7 +1,7 @@
 //! Runs over the files of the working folder: what they ask of the system in which order, and what the files have behind each.
 
+use crate::checks::{are_bytes, holds, is_status};
 use ctrl_serve::{Status, run};
-use run_checks::{are_bytes, holds, is_status};
 use sample_runs::{
     ANN_SLOT, Asked, BOTH, Calls, FIRST, NONE_FAILS, NOTHING, Name, Recorded, SECOND, Spoken, Talk,
     bytes_of, source_of, words_of,

@@ -1,8 +1,8 @@
 //! A folder of the first format, as a program of before the second one wrote it: what is counted in it, how requests are answered on it, and the rows
 //! to which it is migrated.
 
+use crate::checks::{SILENT, answers, has_parts, ran};
 use ctrl_serve::Status;
-use run_checks::{SILENT, answers, has_parts, ran};
 use sample_runs::{FIRST, How, SECOND};
 use std::alloc::{AllocError, Global};
 use std::process::Abort;

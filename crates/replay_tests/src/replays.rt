@@ -1,6 +1,6 @@
 //! Replays on a folder: what is answered by room, what is then kept, and that it is kept where nothing at all is asked of it.
 
-use run_checks::{SILENT, answers, has_parts, ran};
+use crate::checks::{SILENT, answers, has_parts, ran};
 use sample_runs::{ANN_SLOT, FIRST, How, SECOND, folder_of, parts_in};
 use std::alloc::{AllocError, Global};
 use std::process::Abort;

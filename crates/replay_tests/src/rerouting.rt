@@ -1,12 +1,12 @@
 //! Circuits that go over another path in runs on a folder: the rows that are put for them, what the next run shows, and a command by which one goes over
 //! another path and another one ends, which stops at each moment: both are so, or neither.
 
-use crate::checks::has_rows;
+use crate::checks::{
+    EMPTY, SILENT, answers, are_bytes, desk_on, has_rows, has_slot, holds, is_status, ran,
+    run_words,
+};
 use crate::stops::CHOICES;
 use ctrl_serve::Status;
-use run_checks::{
-    EMPTY, SILENT, answers, are_bytes, desk_on, has_slot, holds, is_status, ran, run_words,
-};
 use sample_runs::{ANN, FIRST, How, Talk, parts_in, parts_of};
 use std::alloc::{AllocError, Global};
 use std::process::Abort;

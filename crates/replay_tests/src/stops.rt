@@ -1,8 +1,7 @@
 //! Runs that stop at each moment, by what the stop keeps of what is pending: what the folder then opens to, and how it goes on.
 
-use crate::checks::{ANN_FOLDER, OLD_FOLDER, has_rows, identities_in};
+use crate::checks::{ANN_FOLDER, EMPTY, OLD_FOLDER, answers, has_rows, holds, identities_in, ran};
 use ctrl_serve::Status;
-use run_checks::{EMPTY, answers, holds, ran};
 use sample_runs::{BOTH_ONCE, BOTH_SLOT, How, Talk, parts_in, parts_of};
 use std::alloc::{AllocError, Global};
 use std::process::Abort;

@@ -1,8 +1,8 @@
 //! A change of ten thousand rows that stops at each moment: all of them are found, or none.
 
+use crate::checks::{desk_on, holds, is_status, ran, run_words};
 use crate::stops::CHOICES;
 use ctrl_serve::Status;
-use run_checks::{desk_on, holds, is_status, ran, run_words};
 use sample_runs::{How, Talk, parts_in, wide_folder};
 use std::alloc::{AllocError, Global};
 use std::process::Abort;

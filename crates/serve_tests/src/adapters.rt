@@ -1,7 +1,7 @@
 //! Runs over the adapters: full, partial and failing readers and writers.
 
+use crate::checks::{are_bytes, holds, is_status};
 use ctrl_serve::{Status, run};
-use run_checks::{are_bytes, holds, is_status};
 use sample_runs::{ANN, Calls, MADE, NONE_FAILS, Spoken, bytes_of, words_of};
 use std::alloc::{AllocError, Global};
 use std::io::{self, ErrorKind, Read, Write};

@@ -1,9 +1,8 @@
 //! Tables of runs as text, a case a line: what it is, the input and what is said as their parts, the status, the notes, and how the input is given.
 //! `-` stands for nothing.
 
-use crate::checks::{failing_desk, has_ended, has_no_folder};
+use crate::checks::{Ended, failing_desk, has_ended, has_no_folder, run_words};
 use ctrl_serve::Status;
-use run_checks::{Ended, run_words};
 use sample_runs::{How, bytes_of, notes_of};
 use std::alloc::Global;
 use std::process::Abort;

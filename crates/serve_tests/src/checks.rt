@@ -1,8 +1,7 @@
 //! Runs over memory, and comparisons, each of which is proved once: an assertion of its own in each test is what makes a proof slow.
 
-use ctrl_serve::Status;
-use run_checks::{Ended, are_bytes, is_status, run_words};
-use sample_runs::{How, Talk, desk_of, parts_of};
+use ctrl_serve::{Bounds, Status, run_within};
+use sample_runs::{How, Talk, desk_of, parts_of, source_of, words_of};
 use std::alloc::{AllocError, Global};
 use std::process::Abort;
 use std::test::Fail;
@@ -15,6 +14,24 @@ const ROOM: Room = Room {
     noted_bytes: 4_096,
     log_bytes: 1_572_864,
 };
+
+/// How a run ends: its status, what is said, and what is noted.
+pub(crate) type Ended<'b> = (Status, &'b [u8], &'b [u8]);
+
+/// In a case bytes are the wanted ones.
+pub(crate) fn are_bytes(rt: &impl Abort, what: &str, found: &[u8], wanted: &[u8]) {
+    assert_eq!(rt; found, wanted, "{what}");
+}
+
+/// In a case a run ended so.
+pub(crate) fn is_status(rt: &impl Abort, what: &str, found: Status, wanted: Status) {
+    assert_eq!(rt; found, wanted, "{what}");
+}
+
+/// In a case this holds.
+pub(crate) fn holds(rt: &impl Abort, what: &str, it: bool) {
+    assert!(rt; it, "{what}");
+}
 
 /// In a case a run on a desk ended so.
 pub(crate) fn has_ended(
@@ -45,6 +62,24 @@ pub(crate) fn failing_desk(alloc: Global, failing: &[u32]) -> Result<MemDesk, Al
 /// A desk with an empty folder that does not fail.
 pub(crate) fn steady_desk(alloc: Global) -> Result<MemDesk, AllocError> {
     failing_desk(alloc, &[])
+}
+
+/// Runs words on an input that is given so, and a desk.
+pub(crate) fn run_words(
+    alloc: Global,
+    words: &[&str],
+    how: How,
+    input: &[u8],
+    desk: &mut MemDesk,
+) -> Result<Status, AllocError> {
+    let bounds = Bounds {
+        input: how.most.min(2_097_152),
+        slot: how.slot.clamp(64, 1_048_576),
+        mark: how.mark.clamp(1, 1_024),
+    };
+    let line = words_of(alloc, words)?;
+    let mut source = source_of(alloc, input, how.piece, &[how.take])?;
+    Ok(run_within(alloc, &line, bounds, &mut source, desk))
 }
 
 /// Runs words on an input and a desk.

@@ -1,8 +1,7 @@
 //! A realistic network: 300 identities, 40 services, 12 routers with 30 links, 25 policies, 40 terminators and 200 circuits.
 
-use crate::checks::{run_input, steady_desk};
+use crate::checks::{are_bytes, holds, is_status, run_input, steady_desk};
 use ctrl_serve::Status;
-use run_checks::{are_bytes, holds, is_status};
 use sample_runs::{FIRST, model, parts_of, push_reply, push_request};
 use std::alloc::{AllocError, Global};
 use std::process::Abort;

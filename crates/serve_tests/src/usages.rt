@@ -1,8 +1,7 @@
 //! Runs of generated loads, which say a line, and of words that are in no line of the table.
 
-use crate::checks::{failing_desk, has_ended, has_no_folder, run_input};
+use crate::checks::{Ended, failing_desk, has_ended, has_no_folder, run_input};
 use ctrl_serve::Status;
-use run_checks::Ended;
 use sample_runs::ANN;
 use std::alloc::Global;
 use std::process::Abort;

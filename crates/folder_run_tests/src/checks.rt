@@ -1,6 +1,4 @@
-//! Runs on folders over memory that a test makes, and comparisons, each of which is proved once: an assertion of its own in each test is what makes a
-//! proof slow.
-#![tactic(auto)]
+//! Runs on folders over memory, and comparisons, each of which is proved once: an assertion of its own in each test is what makes a proof slow.
 
 use ctrl_serve::{Bounds, Status, run_within};
 use sample_runs::{FIRST, How, Talk, desk_of, parts_of, source_of, words_of};
@@ -17,37 +15,34 @@ const ROOM: Room = Room {
 };
 
 /// A folder without a byte.
-pub const EMPTY: [&[u8]; 3] = [b"", b"", b""];
+pub(crate) const EMPTY: [&[u8]; 3] = [b"", b"", b""];
 
 /// How a run ends: its status, what is said, and what is noted.
-pub type Ended<'b> = (Status, &'b [u8], &'b [u8]);
-
-/// The end of a run at which nothing is said or noted.
-pub const SILENT: Ended<'static> = (Status::Done, b"", b"");
+pub(crate) type Ended<'b> = (Status, &'b [u8], &'b [u8]);
 
 /// In a case bytes are the wanted ones.
-pub fn are_bytes(rt: &impl Abort, what: &str, found: &[u8], wanted: &[u8]) {
+pub(crate) fn are_bytes(rt: &impl Abort, what: &str, found: &[u8], wanted: &[u8]) {
     assert_eq!(rt; found, wanted, "{what}");
 }
 
 /// In a case a run ended so.
-pub fn is_status(rt: &impl Abort, what: &str, found: Status, wanted: Status) {
+pub(crate) fn is_status(rt: &impl Abort, what: &str, found: Status, wanted: Status) {
     assert_eq!(rt; found, wanted, "{what}");
 }
 
 /// In a case this holds.
-pub fn holds(rt: &impl Abort, what: &str, it: bool) {
+pub(crate) fn holds(rt: &impl Abort, what: &str, it: bool) {
     assert!(rt; it, "{what}");
 }
 
 /// In a case so was said in all runs on a desk, and so noted.
-pub fn has_told(rt: &impl Abort, what: &str, desk: &MemDesk, said: &[u8], noted: &[u8]) {
+pub(crate) fn has_told(rt: &impl Abort, what: &str, desk: &MemDesk, said: &[u8], noted: &[u8]) {
     are_bytes(rt, what, desk.said(), said);
     are_bytes(rt, what, desk.noted(), noted);
 }
 
 /// In a case the parts of a desk's folder read so.
-pub fn has_parts(rt: &impl Abort, what: &str, desk: &MemDesk, parts: [&[u8]; 3]) {
+pub(crate) fn has_parts(rt: &impl Abort, what: &str, desk: &MemDesk, parts: [&[u8]; 3]) {
     let [zero, one, mark] = parts_of(desk);
     are_bytes(rt, what, zero, parts[0]);
     are_bytes(rt, what, one, parts[1]);
@@ -55,17 +50,21 @@ pub fn has_parts(rt: &impl Abort, what: &str, desk: &MemDesk, parts: [&[u8]; 3])
 }
 
 /// In a case the first slot of a desk's folder has these bytes and stands, and the second one has none.
-pub fn has_slot(rt: &impl Abort, what: &str, desk: &MemDesk, slot: &[u8]) {
+pub(crate) fn has_slot(rt: &impl Abort, what: &str, desk: &MemDesk, slot: &[u8]) {
     has_parts(rt, what, desk, [slot, b"", FIRST]);
 }
 
 /// A desk whose folder has these parts, and which fails at these calls, counted from 0.
-pub fn desk_on(alloc: Global, parts: [&[u8]; 3], failing: &[u32]) -> Result<MemDesk, AllocError> {
+pub(crate) fn desk_on(
+    alloc: Global,
+    parts: [&[u8]; 3],
+    failing: &[u32],
+) -> Result<MemDesk, AllocError> {
     desk_of(alloc, ROOM, parts, failing)
 }
 
 /// Runs words on an input and a desk.
-pub fn run_words(
+pub(crate) fn run_words(
     alloc: Global,
     words: &[&str],
     how: How,
@@ -83,7 +82,7 @@ pub fn run_words(
 }
 
 /// In a case words run so on an input and a folder of these parts, which ends so. Answers the desk.
-pub fn ran(
+pub(crate) fn ran(
     rt: &impl Abort,
     alloc: Global,
     what: &str,
@@ -101,30 +100,8 @@ pub fn ran(
     Ok(desk)
 }
 
-/// Replays the frames of a talk on a folder of these parts, which are answered as they have to be. Answers the desk.
-pub fn talked(
-    rt: &impl Abort,
-    alloc: Global,
-    what: &str,
-    how: How,
-    parts: [&[u8]; 3],
-    talk: &Talk,
-) -> Result<MemDesk, AllocError> {
-    let ended = (Status::Done, talk.wanted(), b"".as_slice());
-    ran(
-        rt,
-        alloc,
-        what,
-        &["replay"],
-        how,
-        talk.input(),
-        parts,
-        ended,
-    )
-}
-
 /// Replays the rows of a text on a folder of these parts, which are answered as they have to be. Answers the desk.
-pub fn answers(
+pub(crate) fn answers(
     rt: &impl Abort,
     alloc: Global,
     how: How,
@@ -132,5 +109,15 @@ pub fn answers(
     text: &str,
 ) -> Result<MemDesk, AllocError> {
     let talk = Talk::of(alloc, text)?;
-    talked(rt, alloc, text, how, parts, &talk)
+    let ended = (Status::Done, talk.wanted(), b"".as_slice());
+    ran(
+        rt,
+        alloc,
+        text,
+        &["replay"],
+        how,
+        talk.input(),
+        parts,
+        ended,
+    )
 }
