@@ -1,5 +1,5 @@
 -- What settles, and stores with a load, for worked examples.
-use Rattle.std.specs.Prelude.{ℕ, [], ◌∷◌, codes, None}
+use Rattle.std.specs.Prelude.{ℕ, List, [], ◌∷◌, codes, None, Some}
 use Rattle.ctrl_model.specs.declared.commands.Command.TheVariants.{CreateService}
 use Rattle.ctrl_model.specs.declared.kinds.Precedence.TheVariants.{Normal}
 use Rattle.ctrl_model.specs.declared.kinds.Relation.TheVariants.{Dial}
@@ -20,6 +20,10 @@ nothing = record { links = []; terminators = []; going = []; ended = []; moves =
 -- A terminator of service 2 on router 3.
 abbrev pub offer : Terminator
 offer = record { service = 2; router = 3; instance = []; host = None; cost = 0; precedence = Normal }
+
+-- Terminator 1, the same with a host of number 7.
+abbrev pub hosted : List (ℕ × Terminator)
+hosted = (1, record offer { host = Some 7 }) ∷ []
 
 -- Stores of terminator 1 and two circuits to it, of which some are counted.
 abbrev pub counting : ℕ → Stores

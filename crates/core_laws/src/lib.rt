@@ -12,6 +12,6 @@ pub use worked_rows::{
     serials_in_batches,
 };
 pub use worked_settling::{
-    circuits_of_another_service, circuits_that_go, granted_circuits, kept_loads, what_settles,
-    where_loads_change,
+    circuits_of_another_service, circuits_that_go, granted_circuits, kept_loads,
+    pairs_that_are_emptied, pairs_that_circuits_need, what_settles, where_loads_change,
 };

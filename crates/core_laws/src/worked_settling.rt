@@ -16,8 +16,10 @@ ghost use Rattle.core_stores.specs.OpenCircuits.{CountsBut, CountsOpen, EndThere
 ghost use Rattle.core_stores.specs.SettledNumbers.{SettlesNothing, without_settled};
 ghost use Rattle.core_stores.specs.StoredState.{state_of};
 ghost use Rattle.circuit_settling.specs.OtherLinks.{going_after};
+ghost use Rattle.circuit_looks.specs.EmptiedPairs.{empties, no_pairs};
+ghost use Rattle.circuit_looks.specs.LookedCircuits.{needs};
 ghost use Rattle.ctrl_core.specs.SettledRecords.{AreSettled};
-ghost use Rattle.core_laws.specs.WorkedSettling.{nothing, counting, with_another_service, without_the_middle, without_the_end};
+ghost use Rattle.core_laws.specs.WorkedSettling.{nothing, counting, hosted, offer, with_another_service, without_the_middle, without_the_end};
 
 /// A circuit over links 1 and 2, of which link 2 is down, goes on over link 3. One that nothing grants ends. With the router in the middle
 /// both links go and the circuit ends; with the router at the end its own link, its terminator and the circuit. Else nothing settles.
@@ -54,6 +56,29 @@ pub fn circuits_that_go()
     ensures none { going_after true [] (1 ∷ 2 ∷ 3 ∷ []) (λ n. n == 1) (λ n. n == 2) ≡ [] }
     ensures revoked { going_after false [] (1 ∷ 2 ∷ 3 ∷ []) (λ n. n == 1) (λ n. n == 2) ≡ 2 ∷ 3 ∷ [] }
     ensures both { going_after false (3 ∷ []) (1 ∷ 2 ∷ 3 ∷ []) (λ n. n == 1) (λ n. n == 2) ≡ 1 ∷ 3 ∷ [] }
+{}
+
+/// A circuit of identity 3 and service 2 from router 1 needs Dial of the one on the other, that each shares router 1, and, where its terminator
+/// has the host 7, what lets that one serve on router 3; and no pair of other numbers.
+pub fn pairs_that_circuits_need()
+    ensures dials { needs (record no_pairs { dial = ((3, 2), 1) ∷ [] }) hosted (over []) ≡ true }
+    ensures turned { needs (record no_pairs { dial = ((2, 3), 1) ∷ [] }) hosted (over []) ≡ false }
+    ensures enters { needs (record no_pairs { identity_router = ((3, 1), 1) ∷ [] }) hosted (over []) ≡ true }
+    ensures enters_elsewhere { needs (record no_pairs { identity_router = ((3, 3), 1) ∷ [] }) hosted (over []) ≡ false }
+    ensures shares { needs (record no_pairs { service_router = ((2, 1), 1) ∷ [] }) hosted (over []) ≡ true }
+    ensures binds { needs (record no_pairs { bind = ((7, 2), 1) ∷ [] }) hosted (over []) ≡ true }
+    ensures serves { needs (record no_pairs { identity_router = ((7, 3), 1) ∷ [] }) hosted (over []) ≡ true }
+    ensures ends { needs (record no_pairs { service_router = ((2, 3), 1) ∷ [] }) hosted (over []) ≡ true }
+    ensures no_host { needs (record no_pairs { service_router = ((2, 3), 1) ∷ [] }) ((1, offer) ∷ []) (over []) ≡ false }
+    ensures none { needs no_pairs hosted (over []) ≡ false }
+{}
+
+/// A step down at a pair without a count behind all steps is told once; one at a pair that keeps a count, and one up, are not.
+pub fn pairs_that_are_emptied()
+    ensures first { empties (λ a b. 0) [] (record { a = 3; b = 2; up = false }) ≡ true }
+    ensures again { empties (λ a b. 0) (((3, 2), 1) ∷ []) (record { a = 3; b = 2; up = false }) ≡ false }
+    ensures kept { empties (λ a b. 1) [] (record { a = 3; b = 2; up = false }) ≡ false }
+    ensures up { empties (λ a b. 0) [] (record { a = 3; b = 2; up = true }) ≡ false }
 {}
 
 /// Loads change where a circuit comes, at its terminator, or anywhere where one goes, or where a terminator or a circuit settles.

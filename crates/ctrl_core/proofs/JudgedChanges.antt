@@ -1,5 +1,8 @@
 -- What is present after a change, as circuits need it, and what becomes of circuits beside it.
-use Rattle.std.proofs.Common.{◌≡◌, ℕ, Bool, true, ◌&&◌, cond, List, [], IfOk, Option, None, option_and_then, Result, Ok, Err, sym, ◌∙◌, ap, subst}
+use Rattle.std.proofs.Common.{◌≡◌, ℕ, ◌==◌, Bool, true, not, ◌&&◌, cond, List, [], length, Option, None, option_and_then, sym, ◌∙◌, ap, subst, eqb-true, eq-eqb}
+use Rattle.std.proofs.lemmas.Bool.{false≢true}
+use Rattle.std.proofs.lemmas.List.{nil_from_length}
+use Rattle.std.specs.List.{filter}
 use Rattle.std.specs.Option.{option_map_or}
 use Rattle.ctrl_model.specs.declared.kinds.RouterSeen.{RouterSeen}
 use Rattle.ctrl_model.specs.Numbered.{at, numbers}
@@ -36,15 +39,22 @@ use Rattle.core_stores.specs.StoredState.{state_of}
 use Rattle.ctrl_core.specs.ChangedStores.{CanSettle}
 use Rattle.ctrl_core.specs.Changes.{after_change}
 use Rattle.circuit_settling.specs.declared.going.Remaining.{Remaining}
-use Rattle.circuit_settling.specs.OtherLinks.{going_after}
 use Rattle.circuit_settling.specs.PresentRecords.{Remains}
-use Rattle.ctrl_core.specs.SettledParts.{AreGrantsAfter, StayGranted}
+use Rattle.circuit_looks.specs.declared.looking.Look.{Look}
+use Rattle.circuit_looks.specs.declared.looking.Look.TheVariants.{Paths, These, All}
+use Rattle.circuit_looks.specs.LookedCircuits.{goes_none, going_by}
+use Rattle.ctrl_core.specs.LookedCircuits.{LooksAt}
+use Rattle.ctrl_core.specs.SettledParts.{AreGrantsAfter}
 use Rattle.ctrl_core.specs.PlannedCommands.{Stands}
 use Rattle.ctrl_core.specs.SettledRecords.{AreJudged, AreSettled, before_circuits}
 use Rattle.ctrl_core.proofs.LookedCircuits.{going_is, granted_then, keeps_then}
 use Rattle.circuit_settling.proofs.GrantedCircuits.{granted-before}
 use Rattle.ctrl_core.proofs.SettledChanges.{FallAs}
 use Rattle.ctrl_core.proofs.StateParts.{parts_after, state_then, entities_then, links_then, circuits_then, terms_ordered, links_left, terms_left}
+
+-- a list without numbers has none
+pub is_none : (ns : List ℕ) → ns ≡ [] → (length ns == 0) ≡ true
+is_none ns e = eq-eqb (length ns) 0 (ap length e)
 
 module _ (c : Change) (st : Stores) (g : Fallen) (can : CanSettle st c) (falls : FallAs (after_change c (state_of st)) g) where
   abbrev t : State
@@ -67,18 +77,27 @@ module _ (c : Change) (st : Stores) (g : Fallen) (can : CanSettle st c) (falls :
   pub links_have_graph : (o : Option LinkChange) → o ≡ link_part c → HaveGraph (fabric_after o g.links st.fabric)
   links_have_graph o e = subst HaveGraph (sym (links_are o e)) (have_graph (settle t) valid_then)
 
-  -- where each circuit stays as it is, the links and the terminators that fall are all that settles
-  pub settled_alone : (told : Bool) → told ≡ true → Stands c (state_of st) → StayGranted told (state_of st) (after_change c (state_of st)) → g.circuits ≡ []
+  -- where no circuit is looked at, the links and the terminators that fall are all that settles
+  pub settled_alone : (look : Look) → Stands c (state_of st) → LooksAt c st g.circuits look → goes_none g.circuits look ≡ true
       → (out : Settled) → out.links ≡ g.links → out.terminators ≡ g.terminators → out.going ≡ [] → out.ended ≡ [] → out.moves ≡ [] → AreSettled (after_change c (state_of st)) out
-  settled_alone told is stands known none out links terms going ended moves = subst (λ s. AreSettled s out) (sym (parts_after c st can)) (record {
+  settled_alone look stands looks none out links terms going ended moves = subst (λ s. AreSettled s out) (sym (parts_after c st can)) (record {
     links_are = links ∙ falls_then.links_are;
     terms_are = terms ∙ falls_then.terms_are;
     judged = record {
-      going_are = going ∙ sym none ∙ going_is true c st g can falls_then stands (subst (λ b. StayGranted b (state_of st) (after_change c (state_of st))) is known);
+      going_are = going ∙ sym (nobody look none) ∙ going_is look c st g can falls_then stands looks;
       ended_are = ended ∙ sym (ap (ended_by (way_in t)) going);
       moves_are = moves ∙ sym (ap (moves_by (way_in t)) going);
     };
   })
+    where
+      empty : (ns : List ℕ) → (length ns == 0) ≡ true → ns ≡ []
+      empty ns e = nil_from_length ns (eqb-true (length ns) 0 e)
+
+      nobody : (look : Look) → goes_none g.circuits look ≡ true
+          → going_by look g.circuits (numbers (circuits_then c st).circuits.rows) (granted_then c st g can falls_then) (keeps_then c st g can falls_then) ≡ []
+      nobody Paths none = empty g.circuits none
+      nobody (These ns) none = ap (filter (λ n. not (keeps_then c st g can falls_then n))) (empty ns none)
+      nobody All none = absurd (false≢true none)
 
   -- no circuit is gone or moved yet
   pub circuits_stand : (o : Option CircuitChange) (moves : List Move) (gone : List ℕ) → o ≡ circuit_part c → moves ≡ [] → gone ≡ []
@@ -137,13 +156,13 @@ module _ (c : Change) (st : Stores) (g : Fallen) (can : CanSettle st c) (falls :
           let all = is.seen_are ∙ remains.routers_are in
           (λ i. option_map_or (λ x. same_granted f e routers k is n x i && stays (network (record { terminators = is.terms i; loads = [] }) (is.fabric i) (all i)) (remains.identities_are i) (remains.services_are i) x) (at (is.circuits i).rows n) true)
 
-      pub judged_so : (granted : Bool) → Stands c (state_of st) → StayGranted granted (state_of st) (after_change c (state_of st)) → (f : FabricSeen) (e : TermTables) (routers : List RouterSeen) (k : CircuitTables) (going : List ℕ) (j : Judged) → IsThere f e routers k
-          → going ≡ going_after granted g.circuits (numbers k.circuits.rows) (grants_there f e routers k) (stays_there f e routers k) → j.ended ≡ ended_by (way_there f e routers k) going → j.moves ≡ moves_by (way_there f e routers k) going
+      pub judged_so : (look : Look) → Stands c (state_of st) → LooksAt c st g.circuits look → (f : FabricSeen) (e : TermTables) (routers : List RouterSeen) (k : CircuitTables) (going : List ℕ) (j : Judged) → IsThere f e routers k
+          → going ≡ going_by look g.circuits (numbers k.circuits.rows) (grants_there f e routers k) (stays_there f e routers k) → j.ended ≡ ended_by (way_there f e routers k) going → j.moves ≡ moves_by (way_there f e routers k) going
           → AreJudged (after_change c (state_of st)) going j
-      judged_so granted stands known f e routers k going j is going_are ended moves = subst (λ s. AreJudged s going j) (sym (parts_after c st can)) (record {
+      judged_so look stands looks f e routers k going j is going_are ended moves = subst (λ s. AreJudged s going j) (sym (parts_after c st can)) (record {
         going_are =
-            going_are ∙ (λ i. going_after granted g.circuits (numbers (is.circuits i).rows) (λ n. same_grants f e routers k is n i) (λ n. same_stays f e routers k is n i))
-            ∙ going_is granted c st g can falls_then stands known;
+            going_are ∙ (λ i. going_by look g.circuits (numbers (is.circuits i).rows) (λ n. same_grants f e routers k is n i) (λ n. same_stays f e routers k is n i))
+            ∙ going_is look c st g can falls_then stands looks;
         ended_are = ended ∙ (λ i. ended_by (λ n. same_way f e routers k is n i) going);
         moves_are = moves ∙ (λ i. moves_by (λ n. same_way f e routers k is n i) going);
       })

@@ -1,7 +1,6 @@
 pub mod PlanLaws
 pub mod EntityCounts
 pub mod ApplyLaws
-pub mod StepLaws
 pub mod NetworkPlans
 pub mod CountedChanges
 pub mod FoundPlans
@@ -9,6 +8,7 @@ pub mod StateParts
 pub mod SettledChanges
 pub mod StillGranted
 pub mod LookedCircuits
+pub mod StepLaws
 pub mod LoadChanges
 pub mod JudgedChanges
 pub mod NextNumbers

@@ -1,6 +1,7 @@
 -- What taking the steps of a plan has to show: that the kept counts have room for them, and that what a core keeps stays.
-use Rattle.std.proofs.Common.{◌≡◌, ℕ, ◌≤◌, ◌||◌, ◌&&◌, Bool, true, false, not, cond, List, [], ◌∷◌, length, is_some, Option, None, Some, refl, sym, ◌∙◌, ap, subst, arith}
-use Rattle.std.proofs.lemmas.Bool.{and_parts}
+use Rattle.std.proofs.Common.{◌≡◌, ℕ, zero, suc, ◌≤◌, ◌==◌, nat_lt, ◌||◌, ◌&&◌, Bool, true, false, not, cond, List, [], ◌∷◌, length, is_some, Option, None, Some, refl, sym, ◌∙◌, ap, subst, arith, eqb-true, eq-eqb, lt-ltb, ltb-true}
+use Rattle.std.proofs.lemmas.Bool.{and_parts, ltb-false}
+use Rattle.std.proofs.lemmas.List.{nil_from_length}
 use Rattle.std.proofs.lemmas.List.Sums.{sum_by-cons}
 use Rattle.grant_denorm.specs.declared.deltas.Delta.{Delta}
 use Rattle.grant_denorm.specs.Deltas.{downs, is_at}
@@ -9,6 +10,7 @@ use Rattle.ctrl_model.specs.declared.kinds.Relation.{Relation}
 use Rattle.ctrl_model.specs.declared.kinds.Relation.TheVariants.{Dial, Bind, IdentityRouter, ServiceRouter}
 use Rattle.ctrl_model.specs.Grants.{count, policies_for}
 use Rattle.ctrl_model.specs.Limits.{limit}
+use Rattle.ctrl_model.specs.Membership.{Among}
 use Rattle.ctrl_model.specs.Settling.{settle}
 use Rattle.ctrl_model.specs.State.{State}
 use Rattle.ctrl_model.specs.ValidState.{ValidState}
@@ -21,15 +23,19 @@ use Rattle.core_stores.specs.declared.stores.Stores.{Stores}
 use Rattle.core_stores.specs.CarriedStates.{Carries}
 use Rattle.grant_denorm.specs.TakenSteps.{HaveRoom, Taken}
 use Rattle.circuit_settling.specs.declared.granting.GrantsAfter.{GrantsAfter}
-use Rattle.grant_denorm.specs.CountsAfter.{count_after}
 use Rattle.core_stores.specs.declared.changes.Change.{Change}
 use Rattle.ctrl_model.specs.Numbered.{Between}
 use Rattle.model_laws.specs.Plans.{CanLeadBy, led_by}
 use Rattle.model_laws.proofs.RevokedLaws.{AreGranted-from, revoke-settle}
-use Rattle.ctrl_core.specs.ChangedStores.{CanSettle}
+use Rattle.ctrl_core.specs.ChangedStores.{CanSettle, next_state}
 use Rattle.ctrl_core.specs.Changes.{CanChange, CanLead, after_change, led}
 use Rattle.ctrl_core.proofs.StateParts.{parts_after, terms_ascend}
-use Rattle.ctrl_core.specs.SettledParts.{AreGrantsAfter, StayGranted, counts_after}
+use Rattle.circuit_looks.specs.declared.looking.Look.TheVariants.{Paths}
+use Rattle.circuit_looks.specs.EmptiedPairs.{TellEmptied, counts_after, has_no_pair, no_pairs}
+use Rattle.ctrl_core.specs.LookedCircuits.{LooksAt, StillGranted}
+use Rattle.ctrl_core.specs.SettledParts.{AreGrantsAfter}
+use Rattle.ctrl_core.proofs.LookedCircuits.{still_of}
+use Rattle.ctrl_core.proofs.StillGranted.{StayCounted}
 use Rattle.grant_steps.specs.LeadingSteps.{LeadAllCounts}
 use Rattle.core_stores.specs.OpenCircuits.{CountsOpen}
 use Rattle.policy_store.specs.StepsOfRelations.{only_rise, steps_of, takes_nothing}
@@ -82,15 +88,6 @@ pub keeps_after : (st mid : Stores) (g : Grants) (p : Planned) → Keeps st → 
     → ((r : Relation) → Taken (counts_of r mid.grants) (count_of (counts_of r g)) (steps_of r p.steps)) → Keeps (record mid { grants = g })
 keeps_after st mid g p keeps can = keeps_with_steps st mid g (led p (state_of st)) p.steps keeps can.valid can.counts
 
--- counts that are told by the steps, one relation after another
-pub stepped_by_relation : (g : Grants) (after : GrantsAfter) (steps : GrantSteps) → Taken g.dial (count_after after.dial) steps.dial.items → Taken g.bind (count_after after.bind) steps.bind.items
-    → Taken g.identity_router (count_after after.identity_router) steps.identity_router.items → Taken g.service_router (count_after after.service_router) steps.service_router.items
-    → (r : Relation) → Taken (counts_of r g) (counts_after r after) (steps_of r steps)
-stepped_by_relation g after steps dial bind identity_router service_router Dial = dial
-stepped_by_relation g after steps dial bind identity_router service_router Bind = bind
-stepped_by_relation g after steps dial bind identity_router service_router IdentityRouter = identity_router
-stepped_by_relation g after steps dial bind identity_router service_router ServiceRouter = service_router
-
 -- settling changes no count
 settled_count : (r : Relation) (t : State) (a b : ℕ) → count r (settle t) a b ≡ count r t a b
 settled_count Dial t a b = refl
@@ -132,17 +129,66 @@ each_rises steps e r = by r
     by IdentityRouter = (and_parts (only_rise steps.identity_router.items) (only_rise steps.service_router.items) more.1).0
     by ServiceRouter = (and_parts (only_rise steps.identity_router.items) (only_rise steps.service_router.items) more.1).1
 
--- where what granted each circuit stood, and the steps take nothing, no grant is gone
-pub stay_granted : (granted : Bool) (s t : State) (steps : GrantSteps) → IsGranted granted s → LeadAllCounts s (settle t) steps → StayGranted (granted && takes_nothing steps) s t
-stay_granted granted s t steps is leads = λ e.
-    let both = and_parts granted (takes_nothing steps) e in (
-      AreGranted-from s (is both.0),
-      λ r a b.
-          let moved = (leads r).moves a b in
-          let none = no_downs (steps_of r steps) a b (each_rises steps both.1 r) in
-          let same = settled_count r t a b in
-          omega (arith, moved, none, same),
-    )
+-- where no count falls, what is granted still is
+pub rise_counted : (s t : State) (steps : GrantSteps) → takes_nothing steps ≡ true → LeadAllCounts s (settle t) steps → StayCounted no_pairs s t
+rise_counted s t steps none leads r a b _ some =
+    let moved = (leads r).moves a b in
+    let down = no_downs (steps_of r steps) a b (each_rises steps none r) in
+    let same = settled_count r t a b in
+    let was = ltb-true 0 (count r s a b) some in
+    lt-ltb 0 (count r t a b) (omega (arith, moved, down, same, was))
+
+-- where the pairs without a count are told at which one falls, what is granted still is at the others
+pub emptied_counted : (s t : State) (steps : GrantSteps) (after : GrantsAfter) (g : Grants) → LeadAllCounts s (settle t) steps → AreGrantsAfter t after
+    → ((r : Relation) → TellEmptied (steps_of r steps) (counts_after r after) (counts_of r g)) → StayCounted g s t
+emptied_counted s t steps after g leads counts emptied r a b none some = by (count r t a b) refl
+  where
+    untold : count r t a b ≡ 0 → nat_lt 0 (downs (steps_of r steps) a b) ≡ false
+    untold gone = fewer (nat_lt 0 (downs (steps_of r steps) a b)) (counts_after r after a b == 0) (eq-eqb (counts_after r after a b) 0 (counts r a b ∙ gone)) (sym (emptied r a b) ∙ none)
+      where
+        fewer : (x y : Bool) → y ≡ true → (x && y) ≡ false → x ≡ false
+        fewer true y e f = sym e ∙ f
+        fewer false y e f = refl
+
+    by : (n : ℕ) → count r t a b ≡ n → nat_lt 0 (count r t a b) ≡ true
+    by zero e =
+        let moved = (leads r).moves a b in
+        let down = ltb-false 0 (downs (steps_of r steps) a b) (untold e) in
+        let same = settled_count r t a b in
+        let was = ltb-true 0 (count r s a b) some in
+        absurd (omega (arith, moved, down, same, was, e))
+    by (suc n) e = lt-ltb 0 (count r t a b) (omega (arith, e))
+
+-- lists without elements are empty
+no_length : {A : Type 0} (xs : List A) → (length xs == 0) ≡ true → xs ≡ []
+no_length xs e = nil_from_length xs (eqb-true (length xs) 0 e)
+
+-- where there is no pair, no circuit needs one
+pub without_pairs : (g : Grants) (s t : State) → has_no_pair g ≡ true → StillGranted g s t → StillGranted no_pairs s t
+without_pairs g s t none = subst (λ q. StillGranted q s t) same
+  where
+    d : ((length g.dial == 0) ≡ true) × (((length g.bind == 0) && ((length g.identity_router == 0) && (length g.service_router == 0))) ≡ true)
+    d = and_parts (length g.dial == 0) _ none
+
+    b : ((length g.bind == 0) ≡ true) × (((length g.identity_router == 0) && (length g.service_router == 0)) ≡ true)
+    b = and_parts (length g.bind == 0) _ d.1
+
+    r : ((length g.identity_router == 0) ≡ true) × ((length g.service_router == 0) ≡ true)
+    r = and_parts (length g.identity_router == 0) (length g.service_router == 0) b.1
+
+    same : g ≡ no_pairs
+    same = λ i. record { dial = no_length g.dial d.0 i; bind = no_length g.bind b.0 i; identity_router = no_length g.identity_router r.0 i; service_router = no_length g.service_router r.1 i }
+
+-- where there was no circuit, or what granted each stood and no count falls, those alone are looked at whose path is taken
+pub stay_granted : (c : Change) (st : Stores) → CanSettle st c → (pathless : List ℕ) (granted : Bool) (steps : GrantSteps) → IsGranted granted (state_of st) → LeadAllCounts (state_of st) (next_state st c) steps
+    → ((length st.circuits.circuits.rows == 0) || (granted && takes_nothing steps)) ≡ true → LooksAt c st pathless Paths
+stay_granted c st can pathless granted steps is leads told = by (length st.circuits.circuits.rows == 0) refl told
+  where
+    by : (b : Bool) → (length st.circuits.circuits.rows == 0) ≡ b → (b || (granted && takes_nothing steps)) ≡ true → LooksAt c st pathless Paths
+    by true e told = λ x m. absurd (subst (Among x) (no_length st.circuits.circuits.rows e) m)
+    by false e told =
+        let both = and_parts granted (takes_nothing steps) told in
+        still_of c st can no_pairs (AreGranted-from (state_of st) (is both.0)) (rise_counted (state_of st) (after_change c (state_of st)) steps both.1 leads)
 
 -- what granted each circuit stands after a change, and else where it stood before
 pub granted_after : (granted : Bool) (o : Option Change) (st : Stores) → Keeps st → CanLeadBy CanChange o (state_of st) → ValidState (led_by after_change o (state_of st)) → IsGranted granted (state_of st)

@@ -8,6 +8,7 @@ pub mod JoinedRows
 pub mod LoadedRows
 pub mod OtherCommands
 pub mod TakenRows
+pub mod LookedCircuits
 pub mod SettledParts
 pub mod SettledRecords
 pub mod NewRecords

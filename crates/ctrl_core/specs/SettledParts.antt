@@ -1,15 +1,10 @@
 -- What settles after a change of some stores, by its numbers. Only private functions and proofs of this crate cite this file.
-use Rattle.std.specs.Prelude.{◌≡◌, ℕ, ◌+◌, ◌≤◌, Bool, true, []}
+use Rattle.std.specs.Prelude.{◌≡◌, ℕ, []}
 use Rattle.ctrl_model.specs.declared.kinds.Relation.{Relation}
-use Rattle.ctrl_model.specs.declared.kinds.Relation.TheVariants.{Dial, Bind, IdentityRouter, ServiceRouter}
 use Rattle.ctrl_model.specs.Grants.{count}
 use Rattle.ctrl_model.specs.State.{State, start}
-use Rattle.model_laws.specs.JudgedCircuits.{AreGranted}
-use Rattle.grant_denorm.specs.declared.deltas.Delta.{Delta}
-use Rattle.grant_denorm.specs.CountsAfter.{count_after}
-use Rattle.grant_denorm.specs.Deltas.{ups, downs}
-use Rattle.grant_denorm.specs.PairCounts.{count_of}
 use Rattle.circuit_settling.specs.declared.granting.GrantsAfter.{GrantsAfter}
+use Rattle.circuit_looks.specs.EmptiedPairs.{counts_after}
 use Rattle.fallen_records.specs.declared.falling.Fallen.{Fallen}
 use Rattle.fallen_records.specs.NamedRecords.{Names, NamesByEntity, NamesByLink, NamesByTerm}
 use Rattle.core_stores.specs.declared.changes.Change.{Change}
@@ -37,17 +32,6 @@ NamesBy (change.Terminator c) s g = NamesByTerm c s g
 NamesBy (change.Circuit c) s g = Names [] [] [] g
 NamesBy (change.Intercept c) s g = Names [] [] [] g
 
--- The counts of a relation, as they will be.
-abbrev pub counts_after : Relation → GrantsAfter → ℕ → ℕ → ℕ
-counts_after Dial g = count_after g.dial
-counts_after Bind g = count_after g.bind
-counts_after IdentityRouter g = count_after g.identity_router
-counts_after ServiceRouter g = count_after g.service_router
-
 -- These are the grant counts of a state.
 abbrev pub AreGrantsAfter : State → GrantsAfter → Type 0
 AreGrantsAfter s g = (r : Relation) (a b : ℕ) → counts_after r g a b ≡ count r s a b
-
--- Where it is told so, what granted each circuit of a state stands, and no count is lower in the one after it.
-abbrev pub StayGranted : Bool → State → State → Type 0
-StayGranted told s t = told ≡ true → AreGranted s × ((r : Relation) (a b : ℕ) → count r s a b ≤ count r t a b)

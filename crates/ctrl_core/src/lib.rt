@@ -8,6 +8,7 @@ mod core_state;
 mod counting;
 mod kept_format;
 mod loading;
+mod looking;
 mod new_records;
 mod plans;
 mod row_changes;

@@ -1,33 +1,31 @@
-ghost use Rattle.std.specs.Prelude.{◌≡◌, ◌&&◌, [], IfOk};
-ghost use Rattle.ctrl_model.specs.declared.kinds.Relation.{Relation};
+ghost use Rattle.std.specs.Prelude.{◌≡◌, ◌==◌, ◌&&◌, ◌||◌, [], length, IfOk};
 ghost use Rattle.record_tables.specs.AfterChange.{changed_by};
 ghost use Rattle.entity_store.specs.EntityChanges.{after_entity_change};
 ghost use Rattle.fallen_records.specs.FallenRecords.{Falls};
 ghost use Rattle.core_stores.specs.ChangeParts.{entity_part};
-ghost use Rattle.policy_store.specs.StepsOfRelations.{steps_of, takes_nothing};
+ghost use Rattle.policy_store.specs.StepsOfRelations.{takes_nothing};
 ghost use Rattle.circuit_settling.specs.PresentRecords.{Remains};
 ghost use Rattle.grant_steps.specs.LeadingSteps.{LeadAllCounts};
-ghost use Rattle.core_stores.specs.StoredState.{counts_of, state_of};
-ghost use Rattle.grant_denorm.specs.TakenSteps.{HaveRoom, Taken};
+ghost use Rattle.core_stores.specs.StoredState.{state_of};
 ghost use Rattle.ctrl_core.specs.ChangedStores.{CanSettle, next_state};
 ghost use Rattle.ctrl_core.specs.KeptState.{Keeps, IsGranted};
 ghost use Rattle.ctrl_core.specs.Changes.{after_change};
-ghost use Rattle.ctrl_core.specs.SettledParts.{bare_state_of, NamesBy, AreGrantsAfter, StayGranted, counts_after};
+ghost use Rattle.ctrl_core.specs.LookedCircuits.{LooksAt};
+ghost use Rattle.ctrl_core.specs.SettledParts.{bare_state_of, NamesBy, AreGrantsAfter};
 ghost use Rattle.ctrl_core.specs.PlannedCommands.{Stands};
 ghost use Rattle.ctrl_core.specs.SettledRecords.{AreJudged, AreSettled};
 
-use circuit_settling::{
-    GrantsAfter, Judged, Present, Remaining, going_after, judged, remaining_of,
-};
+use crate::looking::look_by;
+use circuit_looks::{Look, goes_none, going_by, grants_after};
+use circuit_settling::{GrantsAfter, Judged, Present, Remaining, judged, remaining_of};
 use circuits::{CircuitsAfter, Moves};
-use core_stores::{Change, Grants, Settled, Stores};
+use core_stores::{Change, Settled, Stores};
 use ctrl_model::Numbers;
 use entity_store::EntitiesAfter;
 use fabric_graph::FabricAfter;
 use fallen_records::{
     Fallen, Standing, nothing, settled_by_entity, settled_by_link, settled_by_term,
 };
-use grant_denorm::CountedAfter;
 use policy_store::GrantSteps;
 use std::alloc::{AllocError, Global};
 use terminators::TerminatorsAfter;
@@ -58,36 +56,11 @@ fn what_remains(alloc: Global, stores: &Stores, change: &Change) -> Result<Remai
     remaining_of(alloc, &entities)
 }
 
-// The grant counts after some steps.
-fn grants_after<'a>(
-    alloc: Global,
-    grants: &'a Grants,
-    steps: &GrantSteps,
-) -> Result<GrantsAfter<'a>, AllocError>
-    requires { (r : Relation) → HaveRoom (counts_of r grants.now) (steps_of r steps.now) }
-    ensures { IfOk result (λ after. (r : Relation) → Taken (counts_of r grants.now) (counts_after r after) (steps_of r steps.now)) }
+// Whether it is known that what granted each circuit that there was stands: there was none, or no count falls.
+fn stays_granted(stores: &Stores, steps: &GrantSteps, granted: bool) -> bool
+    ensures { result ≡ (length stores.now.circuits.circuits.rows == 0 || (granted && takes_nothing steps.now)) }
 {
-    Ok(GrantsAfter {
-        dial: CountedAfter::new(alloc, &grants.dial, steps.dial.as_slice())?,
-        bind: CountedAfter::new(alloc, &grants.bind, steps.bind.as_slice())?,
-        identity_router: CountedAfter::new(
-            alloc,
-            &grants.identity_router,
-            steps.identity_router.as_slice(),
-        )?,
-        service_router: CountedAfter::new(
-            alloc,
-            &grants.service_router,
-            steps.service_router.as_slice(),
-        )?,
-    })
-}
-
-// Whether it is known that no grant is gone.
-fn stays_granted(granted: bool, steps: &GrantSteps) -> bool
-    ensures { result ≡ (granted && takes_nothing steps.now) }
-{
-    granted && steps.takes_nothing()
+    stores.circuits.count() == 0 || (granted && steps.takes_nothing())
 }
 
 // What becomes of the circuits that do not stay as they are, beside what remains and what is granted.
@@ -98,13 +71,13 @@ fn judged_beside(
     fallen: &Fallen,
     remaining: &Remaining,
     grants: &GrantsAfter,
-    granted: bool,
+    look: &Look,
 ) -> Result<(Numbers, Judged), AllocError>
     requires can { CanSettle stores.now change.now }
     requires falls { Falls (after_change change.now (state_of stores.now)) fallen.now.links fallen.now.terminators fallen.now.circuits }
     requires remains { Remains (changed_by after_entity_change (entity_part change.now) stores.now.entities) remaining.now }
     requires counts { AreGrantsAfter (after_change change.now (state_of stores.now)) grants.now }
-    requires granted { StayGranted granted (state_of stores.now) (after_change change.now (state_of stores.now)) }
+    requires looks { LooksAt change.now stores.now fallen.now.circuits look.now }
     requires stands { Stands change.now (state_of stores.now) }
     ensures { IfOk result (λ p. AreJudged (after_change change.now (state_of stores.now)) p.0 p.1) }
 {
@@ -121,14 +94,7 @@ fn judged_beside(
     let none = Numbers::of(Vec::new(alloc));
     let stay = Moves::of(Vec::new(alloc));
     let circuits = CircuitsAfter::new(&stores.circuits, change.of_circuits(), &none, &stay);
-    let going = going_after(
-        alloc,
-        &circuits,
-        &present,
-        grants,
-        &fallen.circuits,
-        granted,
-    )?;
+    let going = going_by(alloc, &circuits, &present, grants, &fallen.circuits, look)?;
     let judged = judged(alloc, &present, grants, &circuits, &going)?;
     Ok((going, judged))
 }
@@ -163,14 +129,26 @@ fn with_circuits(
     requires can { CanSettle stores.now change.now }
     requires falls { Falls (after_change change.now (state_of stores.now)) fallen.links fallen.terminators fallen.circuits }
     requires counts { LeadAllCounts (state_of stores.now) (next_state stores.now change.now) steps.now }
-    requires granted { StayGranted granted (state_of stores.now) (after_change change.now (state_of stores.now)) }
+    requires granted { IsGranted granted (state_of stores.now) }
     requires stands { Stands change.now (state_of stores.now) }
     ensures { IfOk result (AreSettled (after_change change.now (state_of stores.now))) }
 {
-    let remaining = what_remains(alloc, stores, change)?;
     let grants = grants_after(alloc, &stores.grants, steps)?;
+    let look = look_by(
+        alloc,
+        stores,
+        change,
+        steps,
+        &grants,
+        &fallen.circuits,
+        granted,
+    )?;
+    if goes_none(&look, &fallen.circuits) {
+        return Ok(without_circuits(alloc, fallen));
+    }
+    let remaining = what_remains(alloc, stores, change)?;
     let (going, judged) = judged_beside(
-        alloc, stores, change, &fallen, &remaining, &grants, granted,
+        alloc, stores, change, &fallen, &remaining, &grants, &look,
     )?;
     Ok(Settled {
         links: fallen.links,
@@ -182,8 +160,9 @@ fn with_circuits(
 }
 
 /// What settling makes of the state after a change, by its numbers. The steps lead the counts to those after the change; a circuit that
-/// is added stands; and where it is told that what granted each circuit stood before, and no count falls, only those circuits are looked
-/// at whose path the change takes: where it takes none, no entity is listed and no count is looked up. The stores stay.
+/// is added stands; and where it is told that what granted each circuit stood before, only those circuits are looked at whose path the
+/// change takes and those that need a pair which is granted no more: where there is none, no entity is listed and no grant of a circuit
+/// is looked up, and where there is no circuit or no count falls, no count either. The stores stay.
 pub fn settled_by(
     alloc: Global,
     stores: &Stores,
@@ -199,9 +178,8 @@ pub fn settled_by(
     ensures { IfOk result (AreSettled (after_change change.now (state_of stores.now))) }
 {
     let fallen = fallen_by(alloc, stores, change)?;
-    let stay = stays_granted(granted, steps);
-    if stay && fallen.circuits.is_empty() {
+    if fallen.circuits.is_empty() && stays_granted(stores, steps, granted) {
         return Ok(without_circuits(alloc, fallen));
     }
-    with_circuits(alloc, stores, change, steps, fallen, stay)
+    with_circuits(alloc, stores, change, steps, fallen, granted)
 }

@@ -26,7 +26,7 @@ returns c =
     ap (λ (k : CircuitTables). k.circuits) c.new-circuits.ensures
     ∙ circuits_stand d st g c.requires.can c.requires.falls _ _ _ c.of_circuits.ensures (c.of-stay.ensures ∙ c.new-2.ensures.items) (c.of-none.ensures ∙ c.new.ensures.items) in
     judged_so d st g c.requires.can c.requires.falls c.args.remaining.now c.requires.remains c.args.grants.now
-    (subst (λ s. AreGrantsAfter s c.args.grants.now) (parts_after d st c.requires.can) c.requires.counts) c.args.granted c.requires.stands c.requires.granted
+    (subst (λ s. AreGrantsAfter s c.args.grants.now) (parts_after d st c.requires.can) c.requires.counts) c.args.look.now c.requires.stands c.requires.looks
     c.new-fabric.result c.new-terminators.result c.as_slice.result.now c.new-circuits.result c.in_ok-going.going c.in_ok-judged.judged
     (record {
       fabric = c.new-fabric.ensures ∙ links_are d st g c.requires.can c.requires.falls _ c.of_links.ensures;

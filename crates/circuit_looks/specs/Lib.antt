@@ -1,0 +1,2 @@
+pub mod EmptiedPairs
+pub mod LookedCircuits

@@ -1,0 +1,34 @@
+use Rattle.std.proofs.Common.{sym, ◌∙◌, ap}
+use Rattle.std.specs.List.{filter}
+use Rattle.core_stores.specs.StoredState.{state_of}
+use Rattle.model_laws.proofs.RevokedLaws.{AreGranted-from}
+use Rattle.ctrl_core.specs.Changes.{after_change}
+use Rattle.circuit_looks.specs.LookedCircuits.{is_looked_at}
+use Rattle.ctrl_core.proofs.LookedCircuits.{no_part, still_of, still_routed}
+use Rattle.ctrl_core.proofs.StepLaws.{emptied_counted, without_pairs}
+use Rattle.ctrl_core.proofs.looking.look_by.Goals as goal
+
+pub returns-then-comes_or_goes : goal.returns-then-comes_or_goes
+returns-then-comes_or_goes c =
+    still_routed c.args.change.now c.args.stores.now (sym c.comes_or_goes.ensures ∙ c.if-comes_or_goes.true) (AreGranted-from (state_of c.args.stores.now) (c.requires.granted c.if-not-granted.false))
+
+pub returns-then-has_no_pair : goal.returns-then-has_no_pair
+returns-then-has_no_pair c =
+    let s = state_of c.args.stores.now in
+    let t = after_change c.args.change.now s in
+    let pairs = c.in_ok-pairs.pairs in
+    without_pairs pairs s t (sym c.has_no_pair.ensures ∙ c.if-has_no_pair.true)
+    (still_of c.args.change.now c.args.stores.now c.requires.can pairs (AreGranted-from s (c.requires.granted c.if-not-granted.false))
+    (emptied_counted s t c.args.steps.now c.args.after.now pairs c.requires.steps c.requires.counts c.in_ok-pairs.ensures))
+
+pub returns : goal.returns
+returns c =
+    let s = state_of c.args.stores.now in
+    let t = after_change c.args.change.now s in
+    let pairs = c.in_ok-pairs.pairs in (
+      pairs,
+      no_part _ (sym c.comes_or_goes.ensures ∙ c.if-comes_or_goes.false),
+      c.in_ok-looked.ensures ∙ ap (filter (is_looked_at c.args.stores.now pairs c.args.pathless.now)) c.in_ok-numbers.ensures.all,
+      still_of c.args.change.now c.args.stores.now c.requires.can pairs (AreGranted-from s (c.requires.granted c.if-not-granted.false))
+          (emptied_counted s t c.args.steps.now c.args.after.now pairs c.requires.steps c.requires.counts c.in_ok-pairs.ensures),
+    )
