@@ -1,5 +1,4 @@
-ghost use Rattle.std.specs.Prelude.{◌≡◌, is_some, IfOk};
-ghost use Rattle.core_stores.specs.ChangeParts.{circuit_part};
+ghost use Rattle.std.specs.Prelude.{IfOk};
 ghost use Rattle.core_stores.specs.StoredState.{state_of};
 ghost use Rattle.ctrl_core.specs.Changes.{after_change};
 ghost use Rattle.ctrl_core.specs.KeptState.{IsGranted, Keeps};
@@ -8,22 +7,11 @@ ghost use Rattle.ctrl_core.specs.LookedCircuits.{LooksAt};
 ghost use Rattle.ctrl_core.specs.SettledParts.{AreGrantsAfter};
 ghost use Rattle.grant_steps.specs.LeadingSteps.{LeadAllCounts};
 
-use circuit_looks::{Look, emptied_pairs, has_no_pair, looked_at};
-use circuit_settling::GrantsAfter;
+use circuit_settling::{GrantsAfter, Look, emptied_pairs, has_no_pair, looked_at};
 use core_stores::{Change, Stores};
 use ctrl_model::Numbers;
 use policy_store::GrantSteps;
 use std::alloc::{AllocError, Global};
-
-// Whether a circuit comes or goes by a change.
-fn comes_or_goes(change: &Change) -> bool
-    ensures { result ≡ is_some (circuit_part change.now) }
-{
-    match change {
-        Change::Circuit(_) => true,
-        _ => false,
-    }
-}
 
 /// Which circuits may not stay as they are after a change that takes the paths of some, by the steps of the counts and by the counts after
 /// them. Where it is told that what granted each circuit stood before, these are the ones whose path is taken and those that need a pair
@@ -48,7 +36,7 @@ pub fn look_by(
         return Ok(Look::All);
     }
     // A circuit that comes or goes ends no grant.
-    if comes_or_goes(change) {
+    if change.of_circuits().is_some() {
         return Ok(Look::Paths);
     }
     let pairs = emptied_pairs(alloc, after, steps)?;
@@ -56,6 +44,13 @@ pub fn look_by(
         return Ok(Look::Paths);
     }
     let numbers = stores.circuits.numbers(alloc)?;
-    let looked = looked_at(alloc, stores, &pairs, pathless, &numbers)?;
+    let looked = looked_at(
+        alloc,
+        &stores.circuits,
+        &stores.terminators,
+        &pairs,
+        pathless,
+        &numbers,
+    )?;
     Ok(Look::These(looked))
 }

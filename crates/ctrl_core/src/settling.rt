@@ -16,8 +16,10 @@ ghost use Rattle.ctrl_core.specs.PlannedCommands.{Stands};
 ghost use Rattle.ctrl_core.specs.SettledRecords.{AreJudged, AreSettled};
 
 use crate::looking::look_by;
-use circuit_looks::{Look, goes_none, going_by, grants_after};
-use circuit_settling::{GrantsAfter, Judged, Present, Remaining, judged, remaining_of};
+use circuit_settling::{
+    GrantsAfter, Judged, Look, Present, Remaining, goes_none, going_by, grants_after, judged,
+    remaining_of,
+};
 use circuits::{CircuitsAfter, Moves};
 use core_stores::{Change, Settled, Stores};
 use ctrl_model::Numbers;
@@ -133,7 +135,14 @@ fn with_circuits(
     requires stands { Stands change.now (state_of stores.now) }
     ensures { IfOk result (AreSettled (after_change change.now (state_of stores.now))) }
 {
-    let grants = grants_after(alloc, &stores.grants, steps)?;
+    let grants = grants_after(
+        alloc,
+        &stores.grants.dial,
+        &stores.grants.bind,
+        &stores.grants.identity_router,
+        &stores.grants.service_router,
+        steps,
+    )?;
     let look = look_by(
         alloc,
         stores,
