@@ -75,21 +75,22 @@ fn is_looked_at(
     needs_one || is_among(no.0, pathless.as_slice())
 }
 
-/// Those of some numbers whose circuits are looked at where some pairs are granted no more and the paths of some circuits are taken: a circuit
-/// that needs such a pair, and one whose path is taken. An Err is want of memory.
+/// The circuits that are looked at where some pairs are granted no more and the paths of some circuits are taken: those that need such a pair, and
+/// those whose path is taken. An Err is want of memory.
 pub fn looked_at(
     alloc: Global,
     circuits: &Circuits,
     terminators: &Terminators,
     pairs: &Pairs,
     pathless: &Numbers,
-    numbers: &Numbers,
 ) -> Result<Numbers, AllocError>
-    ensures { IfOk result (λ ns. ns ≡ filter (is_looked_at circuits.now.circuits.rows terminators.now.terminators.rows pairs.now pathless.now) numbers.now) }
+    ensures { IfOk result (λ ns. ns ≡ filter (is_looked_at circuits.now.circuits.rows terminators.now.terminators.rows pairs.now pathless.now) (numbers circuits.now.circuits.rows)) }
 {
+    let numbers = circuits.numbers(alloc)?;
     let mut looked = Vec::new(alloc);
     'circuits: for number in numbers.as_slice() {
-        if is_looked_at(circuits, terminators, pairs, pathless, CircuitNo(*number)) {
+        let no = CircuitNo(*number);
+        if is_looked_at(circuits, terminators, pairs, pathless, no) {
             looked.push(*number)?;
         }
     }

@@ -1,12 +1,10 @@
-use Rattle.std.proofs.Common.{sym, ◌∙◌, ap}
-use Rattle.std.specs.List.{filter}
+use Rattle.std.proofs.Common.{sym, ◌∙◌}
 use Rattle.core_stores.specs.StoredState.{state_of}
 use Rattle.model_laws.proofs.RevokedLaws.{AreGranted-from}
 use Rattle.ctrl_core.specs.Changes.{after_change}
-use Rattle.circuit_settling.specs.LookedCircuits.{is_looked_at}
 use Rattle.ctrl_core.proofs.LookedCircuits.{no_part, still_of, still_routed}
 use Rattle.ctrl_core.proofs.StepLaws.{emptied_counted, without_pairs}
-use Rattle.ctrl_core.proofs.looking.look_by.Goals as goal
+use Rattle.ctrl_core.proofs.settling.look_by.Goals as goal
 
 pub returns-then-is_some : goal.returns-then-is_some
 returns-then-is_some c =
@@ -28,7 +26,7 @@ returns c =
     let pairs = c.in_ok-pairs.pairs in (
       pairs,
       no_part _ (sym c.is_some.ensures ∙ c.if-is_some.false),
-      c.in_ok-looked.ensures ∙ ap (filter (is_looked_at c.args.stores.now.circuits.circuits.rows c.args.stores.now.terminators.terminators.rows pairs c.args.pathless.now)) c.in_ok-numbers.ensures.all,
+      c.in_ok-looked.ensures,
       still_of c.args.change.now c.args.stores.now c.requires.can pairs (AreGranted-from s (c.requires.granted c.if-not-granted.false))
           (emptied_counted s t c.args.steps.now c.args.after.now pairs c.requires.steps c.requires.counts c.in_ok-pairs.ensures),
     )
