@@ -75,6 +75,27 @@ fn is_looked_at(
     needs_one || is_among(no.0, pathless.as_slice())
 }
 
+// Those of some numbers whose circuits are looked at.
+fn looked_among(
+    alloc: Global,
+    circuits: &Circuits,
+    terminators: &Terminators,
+    pairs: &Pairs,
+    pathless: &Numbers,
+    numbers: &Numbers,
+) -> Result<Numbers, AllocError>
+    ensures { IfOk result (λ ns. ns ≡ filter (is_looked_at circuits.now.circuits.rows terminators.now.terminators.rows pairs.now pathless.now) numbers.now) }
+{
+    let mut looked = Vec::new(alloc);
+    'circuits: for number in numbers.as_slice() {
+        let no = CircuitNo(*number);
+        if is_looked_at(circuits, terminators, pairs, pathless, no) {
+            looked.push(*number)?;
+        }
+    }
+    Ok(Numbers::of(looked))
+}
+
 /// The circuits that are looked at where some pairs are granted no more and the paths of some circuits are taken: those that need such a pair, and
 /// those whose path is taken. An Err is want of memory.
 pub fn looked_at(
@@ -87,14 +108,7 @@ pub fn looked_at(
     ensures { IfOk result (λ ns. ns ≡ filter (is_looked_at circuits.now.circuits.rows terminators.now.terminators.rows pairs.now pathless.now) (numbers circuits.now.circuits.rows)) }
 {
     let numbers = circuits.numbers(alloc)?;
-    let mut looked = Vec::new(alloc);
-    'circuits: for number in numbers.as_slice() {
-        let no = CircuitNo(*number);
-        if is_looked_at(circuits, terminators, pairs, pathless, no) {
-            looked.push(*number)?;
-        }
-    }
-    Ok(Numbers::of(looked))
+    looked_among(alloc, circuits, terminators, pairs, pathless, &numbers)
 }
 
 /// The circuits that do not stay as they are, of those that are looked at: of these alone it is asked. An Err is want of memory.

@@ -1,7 +1,7 @@
 use Rattle.std.proofs.Common.{◌≡◌, ◌++◌, drop}
 use Rattle.std.specs.List.{filter}
 use Rattle.circuit_settling.specs.LookedCircuits.{is_looked_at}
-use Rattle.circuit_settling.proofs.looking.looked_at.Given as goal
+use Rattle.circuit_settling.proofs.looking.looked_among.Given as goal
 
 abbrev pub invariant-circuits : goal.invariant-circuits
 invariant-circuits l =
