@@ -4,3 +4,4 @@ pub mod MovedRows
 pub mod JudgedCircuits
 pub mod GrantedCircuits
 pub mod LeastWays
+pub mod EmptiedLaws

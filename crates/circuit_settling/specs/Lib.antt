@@ -2,3 +2,5 @@ pub mod PresentRecords
 pub mod CircuitRows
 pub mod WorkedLines
 pub mod OtherLinks
+pub mod EmptiedPairs
+pub mod LookedCircuits

@@ -16,8 +16,8 @@ ghost use Rattle.core_stores.specs.OpenCircuits.{CountsBut, CountsOpen, EndThere
 ghost use Rattle.core_stores.specs.SettledNumbers.{SettlesNothing, without_settled};
 ghost use Rattle.core_stores.specs.StoredState.{state_of};
 ghost use Rattle.circuit_settling.specs.OtherLinks.{going_after};
-ghost use Rattle.circuit_looks.specs.EmptiedPairs.{empties, no_pairs};
-ghost use Rattle.circuit_looks.specs.LookedCircuits.{needs};
+ghost use Rattle.circuit_settling.specs.EmptiedPairs.{empties, no_pairs};
+ghost use Rattle.circuit_settling.specs.LookedCircuits.{needs};
 ghost use Rattle.ctrl_core.specs.SettledRecords.{AreSettled};
 ghost use Rattle.core_laws.specs.WorkedSettling.{nothing, counting, hosted, offer, with_another_service, without_the_middle, without_the_end};
 

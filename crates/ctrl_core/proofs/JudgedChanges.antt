@@ -40,9 +40,9 @@ use Rattle.ctrl_core.specs.ChangedStores.{CanSettle}
 use Rattle.ctrl_core.specs.Changes.{after_change}
 use Rattle.circuit_settling.specs.declared.going.Remaining.{Remaining}
 use Rattle.circuit_settling.specs.PresentRecords.{Remains}
-use Rattle.circuit_looks.specs.declared.looking.Look.{Look}
-use Rattle.circuit_looks.specs.declared.looking.Look.TheVariants.{Paths, These, All}
-use Rattle.circuit_looks.specs.LookedCircuits.{goes_none, going_by}
+use Rattle.circuit_settling.specs.declared.looking.Look.{Look}
+use Rattle.circuit_settling.specs.declared.looking.Look.TheVariants.{Paths, These, All}
+use Rattle.circuit_settling.specs.LookedCircuits.{goes_none, going_by}
 use Rattle.ctrl_core.specs.LookedCircuits.{LooksAt}
 use Rattle.ctrl_core.specs.SettledParts.{AreGrantsAfter}
 use Rattle.ctrl_core.specs.PlannedCommands.{Stands}

@@ -21,14 +21,14 @@ use Rattle.fallen_records.specs.declared.falling.Fallen.{Fallen}
 use Rattle.circuit_settling.specs.OtherLinks.{before_circuits, keeps_in, going_after, going_in}
 use Rattle.core_stores.specs.declared.changes.Change.{Change}
 use Rattle.core_stores.specs.declared.changes.Change.TheVariants as change
-use Rattle.core_stores.specs.declared.stores.Grants.{Grants}
+use Rattle.circuit_settling.specs.declared.emptying.Pairs.{Pairs}
 use Rattle.core_stores.specs.declared.stores.Stores.{Stores}
 use Rattle.core_stores.specs.ChangeParts.{circuit_part, term_part}
 use Rattle.core_stores.specs.StoredState.{state_of}
-use Rattle.circuit_looks.specs.declared.looking.Look.{Look}
-use Rattle.circuit_looks.specs.declared.looking.Look.TheVariants.{Paths, These, All}
-use Rattle.circuit_looks.specs.EmptiedPairs.{no_pairs}
-use Rattle.circuit_looks.specs.LookedCircuits.{going_by, is_looked_at, needs}
+use Rattle.circuit_settling.specs.declared.looking.Look.{Look}
+use Rattle.circuit_settling.specs.declared.looking.Look.TheVariants.{Paths, These, All}
+use Rattle.circuit_settling.specs.EmptiedPairs.{no_pairs}
+use Rattle.circuit_settling.specs.LookedCircuits.{going_by, is_looked_at, needs}
 use Rattle.ctrl_core.specs.ChangedStores.{CanSettle}
 use Rattle.ctrl_core.specs.Changes.{after_change}
 use Rattle.ctrl_core.specs.LookedCircuits.{LooksAt, StillGranted}
@@ -97,7 +97,7 @@ module _ (c : Change) (st : Stores) (g : Fallen) (can : CanSettle st c) (falls :
       agree x m = ap not (whole (granted_in t x) ∙ ap (λ b. granted_in t x && b) (sym (stays x m)))
 
   -- those that are looked at are enough: each other one stays
-  looked_enough : (q : Grants) (ns : List ℕ) → circuit_part c ≡ None → ns ≡ filter (is_looked_at st q g.circuits) (numbers st.circuits.circuits.rows) → StillGranted q s t
+  looked_enough : (q : Pairs) (ns : List ℕ) → circuit_part c ≡ None → ns ≡ filter (is_looked_at st.circuits.circuits.rows st.terminators.terminators.rows q g.circuits) (numbers st.circuits.circuits.rows) → StillGranted q s t
       → filter (λ n. not (keeps_then n)) ns ≡ going_in t
   looked_enough q ns none are still =
       ap (filter fails) are ∙ filter_twice fails looked (numbers st.circuits.circuits.rows)
@@ -106,7 +106,7 @@ module _ (c : Change) (st : Stores) (g : Fallen) (can : CanSettle st c) (falls :
       ∙ ap (λ (k : Table Circuit). filter fails (numbers k.rows)) (sym same_table) ∙ those (keeps_in t)
     where
       looked : ℕ → Bool
-      looked = is_looked_at st q g.circuits
+      looked = is_looked_at st.circuits.circuits.rows st.terminators.terminators.rows q g.circuits
 
       fails : ℕ → Bool
       fails n = not (keeps_then n)
@@ -143,7 +143,7 @@ module _ (c : Change) (st : Stores) (g : Fallen) (can : CanSettle st c) (falls :
           granted = still x among (sym (ap (λ o. option_map_or (needs q st.terminators.terminators.rows) o false) (at_now x among)) ∙ parts.0) stays
 
 -- where of some pairs those that are none of them are granted still, what granted a circuit that needs none stands where its path does
-pub still_of : (c : Change) (st : Stores) → CanSettle st c → (g : Grants) → AreGranted (state_of st) → StayCounted g (state_of st) (after_change c (state_of st)) → StillGranted g (state_of st) (after_change c (state_of st))
+pub still_of : (c : Change) (st : Stores) → CanSettle st c → (g : Pairs) → AreGranted (state_of st) → StayCounted g (state_of st) (after_change c (state_of st)) → StillGranted g (state_of st) (after_change c (state_of st))
 still_of c st can g granted counted = subst (λ t. StillGranted g (state_of st) t) (sym (parts_after c st can)) (λ x m free stays.
     let o = terms_ordered c st can in
     still_granted (state_of st) (state_then c st) g (subst (λ t. StayCounted g (state_of st) t) (parts_after c st can) counted) x o.high o.ordered

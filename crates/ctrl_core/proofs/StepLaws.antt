@@ -30,8 +30,9 @@ use Rattle.model_laws.proofs.RevokedLaws.{AreGranted-from, revoke-settle}
 use Rattle.ctrl_core.specs.ChangedStores.{CanSettle, next_state}
 use Rattle.ctrl_core.specs.Changes.{CanChange, CanLead, after_change, led}
 use Rattle.ctrl_core.proofs.StateParts.{parts_after, terms_ascend}
-use Rattle.circuit_looks.specs.declared.looking.Look.TheVariants.{Paths}
-use Rattle.circuit_looks.specs.EmptiedPairs.{TellEmptied, counts_after, has_no_pair, no_pairs}
+use Rattle.circuit_settling.specs.declared.looking.Look.TheVariants.{Paths}
+use Rattle.circuit_settling.specs.declared.emptying.Pairs.{Pairs}
+use Rattle.circuit_settling.specs.EmptiedPairs.{TellEmptied, counts_after, has_no_pair, no_pairs, pairs_of}
 use Rattle.ctrl_core.specs.LookedCircuits.{LooksAt, StillGranted}
 use Rattle.ctrl_core.specs.SettledParts.{AreGrantsAfter}
 use Rattle.ctrl_core.proofs.LookedCircuits.{still_of}
@@ -88,6 +89,13 @@ pub keeps_after : (st mid : Stores) (g : Grants) (p : Planned) → Keeps st → 
     → ((r : Relation) → Taken (counts_of r mid.grants) (count_of (counts_of r g)) (steps_of r p.steps)) → Keeps (record mid { grants = g })
 keeps_after st mid g p keeps can = keeps_with_steps st mid g (led p (state_of st)) p.steps keeps can.valid can.counts
 
+-- the kept counts, relation by relation
+pub as_pairs : (g : Grants) (r : Relation) → pairs_of r (record { dial = g.dial; bind = g.bind; identity_router = g.identity_router; service_router = g.service_router }) ≡ counts_of r g
+as_pairs g Dial = refl
+as_pairs g Bind = refl
+as_pairs g IdentityRouter = refl
+as_pairs g ServiceRouter = refl
+
 -- settling changes no count
 settled_count : (r : Relation) (t : State) (a b : ℕ) → count r (settle t) a b ≡ count r t a b
 settled_count Dial t a b = refl
@@ -139,8 +147,8 @@ rise_counted s t steps none leads r a b _ some =
     lt-ltb 0 (count r t a b) (omega (arith, moved, down, same, was))
 
 -- where the pairs without a count are told at which one falls, what is granted still is at the others
-pub emptied_counted : (s t : State) (steps : GrantSteps) (after : GrantsAfter) (g : Grants) → LeadAllCounts s (settle t) steps → AreGrantsAfter t after
-    → ((r : Relation) → TellEmptied (steps_of r steps) (counts_after r after) (counts_of r g)) → StayCounted g s t
+pub emptied_counted : (s t : State) (steps : GrantSteps) (after : GrantsAfter) (g : Pairs) → LeadAllCounts s (settle t) steps → AreGrantsAfter t after
+    → ((r : Relation) → TellEmptied (steps_of r steps) (counts_after r after) (pairs_of r g)) → StayCounted g s t
 emptied_counted s t steps after g leads counts emptied r a b none some = by (count r t a b) refl
   where
     untold : count r t a b ≡ 0 → nat_lt 0 (downs (steps_of r steps) a b) ≡ false
@@ -164,7 +172,7 @@ no_length : {A : Type 0} (xs : List A) → (length xs == 0) ≡ true → xs ≡ 
 no_length xs e = nil_from_length xs (eqb-true (length xs) 0 e)
 
 -- where there is no pair, no circuit needs one
-pub without_pairs : (g : Grants) (s t : State) → has_no_pair g ≡ true → StillGranted g s t → StillGranted no_pairs s t
+pub without_pairs : (g : Pairs) (s t : State) → has_no_pair g ≡ true → StillGranted g s t → StillGranted no_pairs s t
 without_pairs g s t none = subst (λ q. StillGranted q s t) same
   where
     d : ((length g.dial == 0) ≡ true) × (((length g.bind == 0) && ((length g.identity_router == 0) && (length g.service_router == 0))) ≡ true)

@@ -17,10 +17,9 @@ use Rattle.ctrl_model.proofs.NumberedLaws.{at-filter-back, at-edit_at-back, at-w
 use Rattle.model_laws.proofs.AbsentRecords.{at-without-none}
 use Rattle.grant_denorm.specs.PairCounts.{count_of}
 use Rattle.circuit_settling.specs.OtherLinks.{before_circuits}
-use Rattle.core_stores.specs.declared.stores.Grants.{Grants}
-use Rattle.core_stores.specs.StoredState.{counts_of}
-use Rattle.circuit_looks.specs.EmptiedPairs.{no_pairs}
-use Rattle.circuit_looks.specs.LookedCircuits.{host_needs, term_needs, needs}
+use Rattle.circuit_settling.specs.declared.emptying.Pairs.{Pairs}
+use Rattle.circuit_settling.specs.EmptiedPairs.{no_pairs, pairs_of}
+use Rattle.circuit_settling.specs.LookedCircuits.{host_needs, term_needs, needs}
 use Rattle.record_tables.specs.AfterChange.{changed_by}
 use Rattle.terminators.specs.declared.changes.TermChange.{TermChange}
 use Rattle.terminators.specs.declared.changes.TermChange.TheVariants as term
@@ -67,13 +66,13 @@ terms_alike (Some (term.Remove m)) t n e f was is = by (n == m.0) refl
 -- ---- what granted a circuit
 
 -- of some pairs those that are none of them are granted in one state where they are in another
-abbrev pub StayCounted : Grants → State → State → Type 0
-StayCounted g s t = (r : Relation) (a b : ℕ) → nat_lt 0 (count_of (counts_of r g) a b) ≡ false → nat_lt 0 (count r s a b) ≡ true → nat_lt 0 (count r t a b) ≡ true
+abbrev pub StayCounted : Pairs → State → State → Type 0
+StayCounted g s t = (r : Relation) (a b : ℕ) → nat_lt 0 (count_of (pairs_of r g) a b) ≡ false → nat_lt 0 (count r s a b) ≡ true → nat_lt 0 (count r t a b) ≡ true
 
-module _ (s t : State) (g : Grants) (still_counted : StayCounted g s t) where
+module _ (s t : State) (g : Pairs) (still_counted : StayCounted g s t) where
   -- no such pair
   abbrev IsNot : Relation → ℕ → ℕ → Type 0
-  IsNot r a b = nat_lt 0 (count_of (counts_of r g) a b) ≡ false
+  IsNot r a b = nat_lt 0 (count_of (pairs_of r g) a b) ≡ false
 
   still_shared : (i v r : ℕ) → IsNot IdentityRouter i r → IsNot ServiceRouter v r → is_shared (network_of s) i v r ≡ true → is_shared (network_of t) i v r ≡ true
   still_shared i v r on for e =

@@ -5,19 +5,19 @@ use Rattle.ctrl_model.specs.Numbered.{numbers}
 use Rattle.ctrl_model.specs.Settling.{granted_in, stays_in}
 use Rattle.ctrl_model.specs.State.{State, Circuit}
 use Rattle.circuit_settling.specs.OtherLinks.{before_circuits}
-use Rattle.circuit_looks.specs.declared.looking.Look.{Look}
-use Rattle.circuit_looks.specs.declared.looking.Look.TheVariants.{Paths, These, All}
-use Rattle.circuit_looks.specs.EmptiedPairs.{no_pairs}
-use Rattle.circuit_looks.specs.LookedCircuits.{is_looked_at, needs}
+use Rattle.circuit_settling.specs.declared.looking.Look.{Look}
+use Rattle.circuit_settling.specs.declared.looking.Look.TheVariants.{Paths, These, All}
+use Rattle.circuit_settling.specs.EmptiedPairs.{no_pairs}
+use Rattle.circuit_settling.specs.LookedCircuits.{is_looked_at, needs}
 use Rattle.core_stores.specs.declared.changes.Change.{Change}
-use Rattle.core_stores.specs.declared.stores.Grants.{Grants}
+use Rattle.circuit_settling.specs.declared.emptying.Pairs.{Pairs}
 use Rattle.core_stores.specs.declared.stores.Stores.{Stores}
 use Rattle.core_stores.specs.ChangeParts.{circuit_part}
 use Rattle.core_stores.specs.StoredState.{state_of}
 use Rattle.ctrl_core.specs.Changes.{after_change}
 
 -- What granted each circuit of a state that needs none of some pairs stands in another where its path does, if it stood.
-abbrev pub StillGranted : Grants → State → State → Type 0
+abbrev pub StillGranted : Pairs → State → State → Type 0
 StillGranted g s t =
     (x : ℕ × Circuit) → Among x s.circuits.rows → needs g s.terminators.rows x.1 ≡ false → stays_in (before_circuits t) x ≡ true → granted_in t x ≡ true
 
@@ -26,5 +26,5 @@ StillGranted g s t =
 abbrev pub LooksAt : Change → Stores → List ℕ → Look → Type 0
 LooksAt c st pathless Paths = StillGranted no_pairs (state_of st) (after_change c (state_of st))
 LooksAt c st pathless (These ns) =
-    (g : Grants) × (circuit_part c ≡ None) × (ns ≡ filter (is_looked_at st g pathless) (numbers st.circuits.circuits.rows)) × StillGranted g (state_of st) (after_change c (state_of st))
+    (g : Pairs) × (circuit_part c ≡ None) × (ns ≡ filter (is_looked_at st.circuits.circuits.rows st.terminators.terminators.rows g pathless) (numbers st.circuits.circuits.rows)) × StillGranted g (state_of st) (after_change c (state_of st))
 LooksAt c st pathless All = ⊤

@@ -4,7 +4,7 @@ use Rattle.ctrl_model.specs.declared.kinds.Relation.{Relation}
 use Rattle.ctrl_model.specs.Grants.{count}
 use Rattle.ctrl_model.specs.State.{State, start}
 use Rattle.circuit_settling.specs.declared.granting.GrantsAfter.{GrantsAfter}
-use Rattle.circuit_looks.specs.EmptiedPairs.{counts_after}
+use Rattle.circuit_settling.specs.EmptiedPairs.{counts_after}
 use Rattle.fallen_records.specs.declared.falling.Fallen.{Fallen}
 use Rattle.fallen_records.specs.NamedRecords.{Names, NamesByEntity, NamesByLink, NamesByTerm}
 use Rattle.core_stores.specs.declared.changes.Change.{Change}

@@ -8,7 +8,6 @@ mod core_state;
 mod counting;
 mod kept_format;
 mod loading;
-mod looking;
 mod new_records;
 mod plans;
 mod row_changes;

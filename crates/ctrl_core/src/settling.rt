@@ -15,9 +15,10 @@ ghost use Rattle.ctrl_core.specs.SettledParts.{bare_state_of, NamesBy, AreGrants
 ghost use Rattle.ctrl_core.specs.PlannedCommands.{Stands};
 ghost use Rattle.ctrl_core.specs.SettledRecords.{AreJudged, AreSettled};
 
-use crate::looking::look_by;
-use circuit_looks::{Look, goes_none, going_by, grants_after};
-use circuit_settling::{GrantsAfter, Judged, Present, Remaining, judged, remaining_of};
+use circuit_settling::{
+    GrantsAfter, Judged, Look, Present, Remaining, emptied_pairs, goes_none, going_by,
+    grants_after, has_no_pair, judged, looked_at, remaining_of,
+};
 use circuits::{CircuitsAfter, Moves};
 use core_stores::{Change, Settled, Stores};
 use ctrl_model::Numbers;
@@ -54,6 +55,41 @@ fn what_remains(alloc: Global, stores: &Stores, change: &Change) -> Result<Remai
 {
     let entities = EntitiesAfter::new(&stores.entities, change.of_entities());
     remaining_of(alloc, &entities)
+}
+
+// Which circuits may not stay as they are after a change that takes the paths of some, by the steps of the counts and by the counts after
+// them. Where it is told that what granted each circuit stood before, these are the ones whose path is taken and those that need a pair
+// which is granted no more.
+fn look_by(
+    alloc: Global,
+    stores: &Stores,
+    change: &Change,
+    steps: &GrantSteps,
+    after: &GrantsAfter,
+    pathless: &Numbers,
+    granted: bool,
+) -> Result<Look, AllocError>
+    requires kept { Keeps stores.now }
+    requires can { CanSettle stores.now change.now }
+    requires steps { LeadAllCounts (state_of stores.now) (next_state stores.now change.now) steps.now }
+    requires counts { AreGrantsAfter (after_change change.now (state_of stores.now)) after.now }
+    requires granted { IsGranted granted (state_of stores.now) }
+    ensures { IfOk result (LooksAt change.now stores.now pathless.now) }
+{
+    if !granted {
+        return Ok(Look::All);
+    }
+    // A circuit that comes or goes ends no grant.
+    if change.of_circuits().is_some() {
+        return Ok(Look::Paths);
+    }
+    let pairs = emptied_pairs(alloc, after, steps)?;
+    if has_no_pair(&pairs) {
+        return Ok(Look::Paths);
+    }
+    let (circuits, terminators) = (&stores.circuits, &stores.terminators);
+    let looked = looked_at(alloc, circuits, terminators, &pairs, pathless)?;
+    Ok(Look::These(looked))
 }
 
 // Whether it is known that what granted each circuit that there was stands: there was none, or no count falls.
@@ -133,7 +169,14 @@ fn with_circuits(
     requires stands { Stands change.now (state_of stores.now) }
     ensures { IfOk result (AreSettled (after_change change.now (state_of stores.now))) }
 {
-    let grants = grants_after(alloc, &stores.grants, steps)?;
+    let grants = grants_after(
+        alloc,
+        &stores.grants.dial,
+        &stores.grants.bind,
+        &stores.grants.identity_router,
+        &stores.grants.service_router,
+        steps,
+    )?;
     let look = look_by(
         alloc,
         stores,

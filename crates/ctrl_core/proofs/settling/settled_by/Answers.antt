@@ -1,5 +1,5 @@
 use Rattle.std.proofs.Common.{sym, ◌∙◌}
-use Rattle.circuit_looks.specs.declared.looking.Look.TheVariants.{Paths}
+use Rattle.circuit_settling.specs.declared.looking.Look.TheVariants.{Paths}
 use Rattle.ctrl_core.proofs.JudgedChanges.{is_none, settled_alone}
 use Rattle.ctrl_core.proofs.SettledChanges.{settles}
 use Rattle.ctrl_core.proofs.StepLaws.{stay_granted}

@@ -1,11 +1,14 @@
 ghost use Rattle.std.specs.Prelude.{◌≡◌, filter, IfOk};
 ghost use Rattle.ctrl_model.specs.Numbered.{numbers};
 ghost use Rattle.circuit_settling.specs.OtherLinks.{granted_at, keeps_at};
-ghost use Rattle.circuit_looks.specs.LookedCircuits.{goes_none, going_by, is_looked_at, needs, term_needs};
+ghost use Rattle.circuit_settling.specs.LookedCircuits.{goes_none, going_by, is_looked_at, needs, term_needs};
 
-use circuit_settling::{GrantsAfter, Present, going_after, going_among};
-use circuits::{CircuitView, CircuitsAfter};
-use core_stores::{Grants, Stores};
+use crate::emptying::Pairs;
+use crate::going::going_after;
+use crate::granting::GrantsAfter;
+use crate::settling::going_among;
+use crate::staying::Present;
+use circuits::{CircuitView, Circuits, CircuitsAfter};
 use ctrl_model::{CircuitNo, Numbers};
 use record_tables::is_among;
 use std::alloc::{AllocError, Global};
@@ -23,7 +26,7 @@ pub enum Look {
 }
 
 // Whether the host of a terminator, if it has one, needs one of some pairs to serve.
-fn term_needs(pairs: &Grants, term: &TermView) -> bool
+fn term_needs(pairs: &Pairs, term: &TermView) -> bool
     ensures { result ≡ term_needs pairs.now term.now }
 {
     match term.host {
@@ -37,7 +40,7 @@ fn term_needs(pairs: &Grants, term: &TermView) -> bool
 }
 
 // Whether a circuit needs one of some pairs.
-fn needs(pairs: &Grants, terminators: &Terminators, circuit: &CircuitView) -> bool
+fn needs(pairs: &Pairs, terminators: &Terminators, circuit: &CircuitView) -> bool
     ensures { result ≡ needs pairs.now terminators.now.terminators.rows circuit.now }
 {
     pairs.dial.count(circuit.identity.0, circuit.service.0) > 0
@@ -56,34 +59,56 @@ fn needs(pairs: &Grants, terminators: &Terminators, circuit: &CircuitView) -> bo
 }
 
 // Whether the circuit of a number is looked at: it needs one of some pairs, or its path is taken.
-fn is_looked_at(stores: &Stores, pairs: &Grants, pathless: &Numbers, no: CircuitNo) -> bool
-    ensures { result ≡ is_looked_at stores.now pairs.now pathless.now no.0 }
+fn is_looked_at(
+    circuits: &Circuits,
+    terminators: &Terminators,
+    pairs: &Pairs,
+    pathless: &Numbers,
+    no: CircuitNo,
+) -> bool
+    ensures { result ≡ is_looked_at circuits.now.circuits.rows terminators.now.terminators.rows pairs.now pathless.now no.0 }
 {
-    let needs_one = match stores.circuits.seen(no) {
-        Some(circuit) => needs(pairs, &stores.terminators, &circuit),
+    let needs_one = match circuits.seen(no) {
+        Some(circuit) => needs(pairs, terminators, &circuit),
         None => false,
     };
     needs_one || is_among(no.0, pathless.as_slice())
 }
 
-/// Those of some numbers whose circuits are looked at where some pairs are granted no more and the paths of some circuits are taken: a circuit
-/// that needs such a pair, and one whose path is taken. An Err is want of memory.
-pub fn looked_at(
+// Those of some numbers whose circuits are looked at.
+fn looked_among(
     alloc: Global,
-    stores: &Stores,
-    pairs: &Grants,
+    circuits: &Circuits,
+    terminators: &Terminators,
+    pairs: &Pairs,
     pathless: &Numbers,
     numbers: &Numbers,
 ) -> Result<Numbers, AllocError>
-    ensures { IfOk result (λ ns. ns ≡ filter (is_looked_at stores.now pairs.now pathless.now) numbers.now) }
+    ensures { IfOk result (λ ns. ns ≡ filter (is_looked_at circuits.now.circuits.rows terminators.now.terminators.rows pairs.now pathless.now) numbers.now) }
 {
     let mut looked = Vec::new(alloc);
     'circuits: for number in numbers.as_slice() {
-        if is_looked_at(stores, pairs, pathless, CircuitNo(*number)) {
+        let no = CircuitNo(*number);
+        if is_looked_at(circuits, terminators, pairs, pathless, no) {
             looked.push(*number)?;
         }
     }
     Ok(Numbers::of(looked))
+}
+
+/// The circuits that are looked at where some pairs are granted no more and the paths of some circuits are taken: those that need such a pair, and
+/// those whose path is taken. An Err is want of memory.
+pub fn looked_at(
+    alloc: Global,
+    circuits: &Circuits,
+    terminators: &Terminators,
+    pairs: &Pairs,
+    pathless: &Numbers,
+) -> Result<Numbers, AllocError>
+    ensures { IfOk result (λ ns. ns ≡ filter (is_looked_at circuits.now.circuits.rows terminators.now.terminators.rows pairs.now pathless.now) (numbers circuits.now.circuits.rows)) }
+{
+    let numbers = circuits.numbers(alloc)?;
+    looked_among(alloc, circuits, terminators, pairs, pathless, &numbers)
 }
 
 /// The circuits that do not stay as they are, of those that are looked at: of these alone it is asked. An Err is want of memory.

@@ -1,5 +1,5 @@
-use Rattle.circuit_looks.proofs.EmptiedLaws.{emptied_by_relation}
-use Rattle.circuit_looks.proofs.emptying.emptied_pairs.Goals as goal
+use Rattle.circuit_settling.proofs.EmptiedLaws.{emptied_by_relation}
+use Rattle.circuit_settling.proofs.emptying.emptied_pairs.Goals as goal
 
 pub returns : goal.returns
 returns c =

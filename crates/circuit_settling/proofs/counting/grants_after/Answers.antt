@@ -1,6 +1,6 @@
-use Rattle.circuit_looks.proofs.EmptiedLaws.{stepped_by_relation}
 use Rattle.ctrl_model.specs.declared.kinds.Relation.TheVariants.{Dial, Bind, IdentityRouter, ServiceRouter}
-use Rattle.circuit_looks.proofs.counting.grants_after.Goals as goal
+use Rattle.circuit_settling.proofs.EmptiedLaws.{stepped_by_relation}
+use Rattle.circuit_settling.proofs.counting.grants_after.Goals as goal
 
 pub new-requires : goal.new-requires
 new-requires c = rw (c.as_slice.ensures.value) (c.requires Dial)

@@ -3,9 +3,9 @@ use Rattle.std.proofs.lemmas.Bool.{and_parts}
 use Rattle.grant_denorm.specs.declared.deltas.Delta.{Delta}
 use Rattle.grant_denorm.specs.CountsAfter.{count_after}
 use Rattle.grant_denorm.specs.PairCounts.{count_of}
-use Rattle.circuit_looks.proofs.EmptiedLaws.{passed, raised}
-use Rattle.circuit_looks.proofs.emptying.emptied.Goals as goal
-use Rattle.circuit_looks.proofs.emptying.emptied.Goals.{then-empties+in_ok-raise, else-empties}
+use Rattle.circuit_settling.proofs.EmptiedLaws.{passed, raised}
+use Rattle.circuit_settling.proofs.emptying.emptied.Goals as goal
+use Rattle.circuit_settling.proofs.emptying.emptied.Goals.{then-empties+in_ok-raise, else-empties}
 
 pub raise-requires : goal.raise-requires
 raise-requires c =

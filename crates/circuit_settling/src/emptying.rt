@@ -2,14 +2,21 @@ ghost use Rattle.std.specs.Prelude.{◌≡◌, IfOk};
 ghost use Rattle.ctrl_model.specs.declared.kinds.Relation.{Relation};
 ghost use Rattle.grant_denorm.specs.CountsAfter.{count_after};
 ghost use Rattle.policy_store.specs.StepsOfRelations.{steps_of};
-ghost use Rattle.core_stores.specs.StoredState.{counts_of};
-ghost use Rattle.circuit_looks.specs.EmptiedPairs.{TellEmptied, counts_after, empties, has_no_pair};
+ghost use Rattle.circuit_settling.specs.EmptiedPairs.{TellEmptied, counts_after, empties, has_no_pair, pairs_of};
 
-use circuit_settling::GrantsAfter;
-use core_stores::Grants;
+use crate::granting::GrantsAfter;
 use grant_denorm::{Counted, CountedAfter, Delta};
 use policy_store::GrantSteps;
 use std::alloc::{AllocError, Global};
+
+/// Pairs of each relation, each of which is told by a count above 0.
+#[derive(Drop)]
+pub struct Pairs {
+    pub dial: Counted,
+    pub bind: Counted,
+    pub identity_router: Counted,
+    pub service_router: Counted,
+}
 
 // Whether a step goes down at a pair that has no count after all steps, and that some counts do not tell yet.
 fn empties(after: &CountedAfter, pairs: &Counted, step: &Delta) -> bool
@@ -37,10 +44,10 @@ pub fn emptied_pairs(
     alloc: Global,
     after: &GrantsAfter,
     steps: &GrantSteps,
-) -> Result<Grants, AllocError>
-    ensures { IfOk result (λ pairs. (r : Relation) → TellEmptied (steps_of r steps.now) (counts_after r after.now) (counts_of r pairs)) }
+) -> Result<Pairs, AllocError>
+    ensures { IfOk result (λ pairs. (r : Relation) → TellEmptied (steps_of r steps.now) (counts_after r after.now) (pairs_of r pairs)) }
 {
-    Ok(Grants {
+    Ok(Pairs {
         dial: emptied(alloc, &after.dial, steps.dial.as_slice())?,
         bind: emptied(alloc, &after.bind, steps.bind.as_slice())?,
         identity_router: emptied(
@@ -57,7 +64,7 @@ pub fn emptied_pairs(
 }
 
 /// Whether no pair of any relation has a count.
-pub fn has_no_pair(pairs: &Grants) -> bool
+pub fn has_no_pair(pairs: &Pairs) -> bool
     ensures { result ≡ has_no_pair pairs.now }
 {
     pairs.dial.pairs() == 0

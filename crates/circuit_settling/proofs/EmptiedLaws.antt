@@ -13,9 +13,8 @@ use Rattle.grant_denorm.specs.TakenSteps.{Taken}
 use Rattle.policy_store.specs.declared.steps.GrantSteps.{GrantSteps}
 use Rattle.policy_store.specs.StepsOfRelations.{steps_of}
 use Rattle.circuit_settling.specs.declared.granting.GrantsAfter.{GrantsAfter}
-use Rattle.core_stores.specs.declared.stores.Grants.{Grants}
-use Rattle.core_stores.specs.StoredState.{counts_of}
-use Rattle.circuit_looks.specs.EmptiedPairs.{TellEmptied, counts_after, empties}
+use Rattle.circuit_settling.specs.declared.emptying.Pairs.{Pairs}
+use Rattle.circuit_settling.specs.EmptiedPairs.{TellEmptied, counts_after, empties, pairs_of}
 
 -- up to behind a place there are those up to it and the one there
 up_to_next : {X : Type 0} (p : X → Bool) (xs : List X) (i : ℕ) (z : X) → i < length xs → count_by p (take (suc i) xs) ≡ count_by p (take i xs) + cond (p (get_or xs i z)) 1 0
@@ -115,18 +114,18 @@ module _ (ds : List Delta) (after : ℕ → ℕ → ℕ) (i : ℕ) (z : Delta) (
       by a b false e = elsewhere old old so_far a b e refl
 
 -- what is told of each relation is told of all
-pub emptied_by_relation : (after : GrantsAfter) (steps : GrantSteps) (g : Grants) → TellEmptied steps.dial.items (count_after after.dial) g.dial → TellEmptied steps.bind.items (count_after after.bind) g.bind
+pub emptied_by_relation : (after : GrantsAfter) (steps : GrantSteps) (g : Pairs) → TellEmptied steps.dial.items (count_after after.dial) g.dial → TellEmptied steps.bind.items (count_after after.bind) g.bind
     → TellEmptied steps.identity_router.items (count_after after.identity_router) g.identity_router → TellEmptied steps.service_router.items (count_after after.service_router) g.service_router
-    → (r : Relation) → TellEmptied (steps_of r steps) (counts_after r after) (counts_of r g)
+    → (r : Relation) → TellEmptied (steps_of r steps) (counts_after r after) (pairs_of r g)
 emptied_by_relation after steps g dial bind identity_router service_router Dial = dial
 emptied_by_relation after steps g dial bind identity_router service_router Bind = bind
 emptied_by_relation after steps g dial bind identity_router service_router IdentityRouter = identity_router
 emptied_by_relation after steps g dial bind identity_router service_router ServiceRouter = service_router
 
 -- counts that are told by the steps, one relation after another
-pub stepped_by_relation : (g : Grants) (after : GrantsAfter) (steps : GrantSteps) → Taken g.dial (count_after after.dial) steps.dial.items → Taken g.bind (count_after after.bind) steps.bind.items
+pub stepped_by_relation : (g : Pairs) (after : GrantsAfter) (steps : GrantSteps) → Taken g.dial (count_after after.dial) steps.dial.items → Taken g.bind (count_after after.bind) steps.bind.items
     → Taken g.identity_router (count_after after.identity_router) steps.identity_router.items → Taken g.service_router (count_after after.service_router) steps.service_router.items
-    → (r : Relation) → Taken (counts_of r g) (counts_after r after) (steps_of r steps)
+    → (r : Relation) → Taken (pairs_of r g) (counts_after r after) (steps_of r steps)
 stepped_by_relation g after steps dial bind identity_router service_router Dial = dial
 stepped_by_relation g after steps dial bind identity_router service_router Bind = bind
 stepped_by_relation g after steps dial bind identity_router service_router IdentityRouter = identity_router

@@ -1,2 +1,0 @@
-pub mod EmptiedPairs
-pub mod LookedCircuits
