@@ -1,19 +1,18 @@
 ghost use Rattle.std.specs.Prelude.{◌≡◌, IfOk, IsErrOf, IsOk, IsSome, OnErr, is_some, option_and_then};
 ghost use Rattle.serde_json.specs.View.{view};
-ghost use Rattle.ctrl_model.specs.AddressForm.{address_of, same_address};
+ghost use Rattle.ctrl_model.specs.AddressForm.{address_of};
 ghost use Rattle.json_body.specs.FieldKinds.{object_of, required};
 ghost use Rattle.body_fields.specs.InterceptFields.{as_addresses, as_destination, as_port, as_protocol, as_protocols, as_range, as_ranges, destination_of, protocol_of, range_from};
 ghost use Rattle.body_fields.specs.PlaceMarks.{has_no_star, is_unmarked};
 ghost use Rattle.body_fields.specs.ReadResults.{Gives};
 
 use crate::item_lists::{ItemKind, SameItems, is_some_list_of, some_once};
-use ctrl_model::{Address, AddressFault, Addresses, Field, MOST_CLAIMED, PortRange, PortRanges};
+use ctrl_model::{
+    Address, AddressFault, Addresses, Field, MOST_CLAIMED, MOST_PORT, PortRange, PortRanges,
+};
 use json_body::{FieldFault, Fields, as_list_of, as_number_in};
 use serde_json::Value;
 use std::alloc::{AllocError, Global};
-
-/// The greatest port.
-pub const MOST_PORT: u32 = 65_535;
 
 // ---- protocols
 
@@ -135,27 +134,7 @@ impl SameItems<Address> for ItemAddress {
     ghost are_equal = { same_is };
 
     fn is_same(item: &Address, other: &Address) -> bool {
-        same_address(item, other)
-    }
-}
-
-// Whether two addresses are the same.
-fn same_address(address: &Address, other: &Address) -> bool
-    ensures { result ≡ same_address address.now other.now }
-{
-    match (address, other) {
-        (Address::Host { text }, Address::Host { text: other }) => text.as_slice()
-            == other.as_slice(),
-        (Address::Under { text }, Address::Under { text: other }) => text.as_slice()
-            == other.as_slice(),
-        (
-            Address::Range { ip, bits },
-            Address::Range {
-                ip: other,
-                bits: others,
-            },
-        ) => ip == other && bits == others,
-        _ => false,
+        item.is_same(other)
     }
 }
 
@@ -293,7 +272,7 @@ impl SameItems<PortRange> for ItemRange {
     ghost are_equal = { same_range };
 
     fn is_same(item: &PortRange, other: &PortRange) -> bool {
-        item == other
+        item.is_same(other)
     }
 }
 

@@ -13,7 +13,7 @@ pub use bodies::value_in;
 pub use field_rules::{AskedField, FieldKind, keep_rules};
 pub use field_words::{precedence, precedence_in, relation, relation_in, semantic, semantic_in};
 pub use intercept_fields::{
-    ItemAddress, ItemRange, MOST_PORT, ProtocolSet, addresses, are_addresses, are_ranges,
+    ItemAddress, ItemRange, ProtocolSet, addresses, are_addresses, are_ranges,
     destination, is_destination, protocol, protocol_in, protocols, protocols_in, ranges,
 };
 pub use item_lists::{

@@ -16,8 +16,7 @@ use crate::content_types::{
     UPDATE_SERVICE_POLICY, UPDATE_TERMINATOR, VERIFY_ROUTE,
 };
 use body_fields::AskedField::{self, Needed, Optional};
-use body_fields::MOST_PORT;
-use ctrl_model::{Field, LONGEST_PATH, MOST_COST, MOST_LATENCY, MOST_ROUTERS};
+use ctrl_model::{Field, LONGEST_PATH, MOST_COST, MOST_LATENCY, MOST_PORT, MOST_ROUTERS};
 
 // What a command asks of the object that is its body: the rules of its fields, and which fields there may be.
 #[derive(Clone, Copy)]

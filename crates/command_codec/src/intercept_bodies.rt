@@ -7,8 +7,8 @@ ghost use Rattle.command_codec.specs.InterceptBodies.{set_intercept, pick, list_
 use crate::body_forms::{CLASH_FIELDS, INTERCEPT_FIELDS, PICK_FIELDS};
 use crate::content_types::{CLEAR_INTERCEPT, LIST_CLASHES, PICK, SET_INTERCEPT};
 use crate::entity_bodies::named;
-use body_fields::{MOST_PORT, addresses, destination, protocol, protocols, ranges};
-use ctrl_model::{Command, Field, Intercept};
+use body_fields::{addresses, destination, protocol, protocols, ranges};
+use ctrl_model::{Command, Field, Intercept, MOST_PORT};
 use json_body::{FieldFault, Fields};
 use std::alloc::Global;
 

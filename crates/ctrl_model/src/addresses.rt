@@ -3,7 +3,7 @@ ghost use Rattle.std.specs.Char.{is_ascii_digit};
 ghost use Rattle.std.specs.List.{list_all, list_any};
 ghost use Rattle.std.specs.Option.{option_map_or};
 ghost use Rattle.std.specs.String.{string_bytes};
-ghost use Rattle.ctrl_model.specs.AddressForm.{lowered, is_label_byte, is_label, is_host, under_of, parts_at, last_part, is_padded, number_to, ip_of, first_bits, range_of, address_of, ip_text, address_text, is_address, is_spelling, is_range_spelling};
+ghost use Rattle.ctrl_model.specs.AddressForm.{lowered, is_label_byte, is_label, is_host, under_of, parts_at, last_part, is_padded, number_to, ip_of, first_bits, range_of, address_of, ip_text, address_text, same_address, is_address, is_spelling, is_range_spelling};
 ghost use Rattle.ctrl_model.specs.declared.addresses.Address.TheVariants.{Range, Under};
 
 use crate::items::{Copies, Items};
@@ -292,6 +292,26 @@ impl Address {
         ensures bad { IsErrOf result AddressFault.BadAddress ↔ (address_of bytes.now ≡ None) }
     {
         address_of(alloc, bytes)
+    }
+
+    /// Whether it is the same address as another. No memory is taken.
+    pub fn is_same(&self, other: &Address) -> bool
+        ensures { result ≡ same_address self.now other.now }
+    {
+        match (self, other) {
+            (Address::Host { text }, Address::Host { text: other }) => text.as_slice()
+                == other.as_slice(),
+            (Address::Under { text }, Address::Under { text: other }) => text.as_slice()
+                == other.as_slice(),
+            (
+                Address::Range { ip, bits },
+                Address::Range {
+                    ip: other,
+                    bits: others,
+                },
+            ) => ip == other && bits == others,
+            _ => false,
+        }
     }
 
     /// The one spelling of the address: small letters, and no `/32`. An Err is want of memory.

@@ -1,3 +1,6 @@
+ghost use Rattle.std.specs.Prelude.{◌≡◌};
+ghost use Rattle.ctrl_model.specs.InterceptForm.{same_ports};
+
 use crate::addresses::Addresses;
 use crate::items::{Copies, Items};
 use std::alloc::AllocError;
@@ -7,6 +10,15 @@ use std::alloc::AllocError;
 pub struct PortRange {
     pub low: u16,
     pub high: u16,
+}
+
+impl PortRange {
+    /// Whether it is the same range as another.
+    pub fn is_same(&self, other: &PortRange) -> bool
+        ensures { result ≡ same_ports self.now other.now }
+    {
+        self.low == other.low && self.high == other.high
+    }
 }
 
 impl Copies for PortRange {

@@ -24,7 +24,7 @@ pub use items::{Copies, Items};
 pub use kinds::{Kind, Precedence, Relation, Role, RouterSeen, Semantic, Side, Who};
 pub use limits::{
     LAST_SERIAL, LONGEST_HOST, LONGEST_LABEL, LONGEST_NAME, LONGEST_PATH, MOST_ATTRIBUTES,
-    MOST_BITS, MOST_CLAIMED, MOST_COST, MOST_ENTRIES, MOST_LATENCY, MOST_ROUTERS, limit,
+    MOST_BITS, MOST_CLAIMED, MOST_COST, MOST_ENTRIES, MOST_LATENCY, MOST_PORT, MOST_ROUTERS, limit,
 };
 pub use numbering::{
     CircuitNo, IdentityNo, LinkNo, Numbers, PolicyNo, RouterNo, ServiceNo, TermNo,

@@ -36,6 +36,9 @@ pub const MOST_COST: u32 = 65_535;
 /// The greatest latency that one end of a link reports.
 pub const MOST_LATENCY: u32 = 60_000;
 
+/// The greatest port.
+pub const MOST_PORT: u32 = 65_535;
+
 /// The last serial: a state that has it is changed no more.
 pub const LAST_SERIAL: u64 = 9_223_372_036_854_775_808;
 

@@ -16,7 +16,7 @@ use Rattle.desk_base.specs.declared.stopping.Keeping.{Keeping}
 use Rattle.desk_base.specs.declared.stopping.Keeping.TheVariants as choice
 use Rattle.desk_base.specs.MemEvents.{events, image_of, Event, Saying, Writing, Cutting, Syncing, at_parts, with_part, written_over, reads_by, said_by, reads_after, said_after}
 use Rattle.desk_base.specs.StopPoints.{event_of, said_past, written_past, is_part, syncs, up_to_sync, as_done, done_from_sync, synced_parts, whole_parts, KeepsOf, Reached}
-use Rattle.desk_base.specs.KeptSteps.{synced_by, whole_by, KeepsBy, StaysChosen, ChosenAt, SaysChosen, KeepsChosen, ReachedChosen}
+use Rattle.desk_base.specs.KeptSteps.{synced_by, whole_by, KeepsBy, StaysChosen, ChosenAt, SaysChosen, KeepsChosen, KeptSoFar}
 use Rattle.desk_base.proofs.MemLaws.{reads_push, said_push}
 use Rattle.desk_base.proofs.StopLaws.{self_part, log_next, log_more, reached_none, says_alone}
 
@@ -207,9 +207,8 @@ pub keeps_from : (a b : Keeping) (e : Event) (r old new : Image) → StaysChosen
 keeps_from a b e r old new stays by = record { nothing = λ is. by.nothing (stays.nothing is); all = λ is. by.all (stays.all is) }
 
 -- A stop at the start of a log.
-pub chosen_none : (first reads image : Image) (es : List Event) (k : Keeping) (said : List ℕ) → reads ≡ first → image ≡ first → said ≡ [] → ReachedChosen first es es 0 k k reads image said
-chosen_none first reads image es k said e f g = record {
-  reached = reached_none first reads image es said e f g;
+pub chosen_none : (first reads image : Image) (es : List Event) (k : Keeping) (said : List ℕ) → reads ≡ first → image ≡ first → said ≡ [] → Reached first es es 0 reads image said × KeptSoFar first (take 0 es) k k image
+chosen_none first reads image es k said e f g = reached_none first reads image es said e f g , record {
   chosen = record { nothing = λ is p. ap (λ (i : Image). i p) f; all = λ is p. ap (λ (i : Image). i p) f };
   stays = record { nothing = λ is. is; all = λ is. is };
 }
@@ -217,36 +216,36 @@ chosen_none first reads image es k said e f g = record {
 -- A stop one call of a log later.
 pub log_chosen : (first : Images) (seen calls : List Call) (index : ℕ) (d : Call) (es : List Event) (s w s_now w_now : List ℕ) (k now later : Keeping) (reads reads_now image image_now : Image) (said said_now : List ℕ)
     → seen ≡ calls → index < length calls → s_now ≡ said_past (get_or seen index d) s → w_now ≡ written_past (get_or seen index d) w
-    → ReachedChosen (image_of first) es (events (drop index calls) s w) index k now reads image said
+    → Reached (image_of first) es (events (drop index calls) s w) index reads image said × KeptSoFar (image_of first) (take index es) k now image
     → reads_now ≡ reads_by (event_of (get_or seen index d) s w) reads → KeepsOf (event_of (get_or seen index d) s w) reads image image_now → said_now ≡ said_by (event_of (get_or seen index d) s w) said
     → KeepsBy now (event_of (get_or seen index d) s w) reads image image_now → StaysChosen now later
-    → ReachedChosen (image_of first) es (events (drop (index + 1) calls) s_now w_now) (index + 1) k later reads_now image_now said_now
+    → Reached (image_of first) es (events (drop (index + 1) calls) s_now w_now) (index + 1) reads_now image_now said_now × KeptSoFar (image_of first) (take (index + 1) es) k later image_now
 log_chosen first seen calls index d es s w s_now w_now k now later reads reads_now image image_now said said_now same lt same_said same_written old r kept t by stays =
     let e = event_of (get_or seen index d) s w in
     let rest = events (drop (index + 1) calls) (said_past (get_or seen index d) s) (written_past (get_or seen index d) w) in
-    record {
-      reached = log_more first seen calls index d es s w s_now w_now reads reads_now image image_now said said_now same lt same_said same_written old.reached r kept t;
+    log_more first seen calls index d es s w s_now w_now reads reads_now image image_now said said_now same lt same_said same_written old.0 r kept t , record {
       chosen = chosen_more (image_of first) es rest index e k reads image image_now said
-          (subst (λ (l : List Event). Reached (image_of first) es l index reads image said) (log_next seen calls index d s w same lt) old.reached) (keeps_from k now e reads image image_now old.stays by) old.chosen;
-      stays = stays_on k now later old.stays stays;
+          (subst (λ (l : List Event). Reached (image_of first) es l index reads image said) (log_next seen calls index d s w same lt) old.0) (keeps_from k now e reads image image_now old.1.stays by) old.1.chosen;
+      stays = stays_on k now later old.1.stays stays;
     }
 
 -- A stop within a call of a log.
 pub log_chosen_within : (first : Images) (seen calls : List Call) (index : ℕ) (d : Call) (es : List Event) (s w : List ℕ) (k now : Keeping) (reads image : Image) (said taken : List ℕ)
-    → seen ≡ calls → index < length seen → ReachedChosen (image_of first) es (events (drop index calls) s w) index k now reads image said
+    → seen ≡ calls → index < length seen → Reached (image_of first) es (events (drop index calls) s w) index reads image said × KeptSoFar (image_of first) (take index es) k now image
     → SaysChosen now (event_of (get_or seen index d) s []) said taken → KeepsChosen k (image_of first) es index image taken
 log_chosen_within first seen calls index d es s w k now reads image said taken same lt old says =
     let call = get_or seen index d in
     let rest = events (drop (index + 1) calls) (said_past call s) (written_past call w) in
     chosen_within (image_of first) es rest index (event_of call s w) k reads image said taken
-    (subst (λ (l : List Event). Reached (image_of first) es l index reads image said) (log_next seen calls index d s w same (omega (arith, lt, ap length same))) old.reached) old.chosen
-    (record { nothing = λ is. says.nothing (old.stays.nothing is); all = λ is. says.all (old.stays.all is) ∙ says_alone call s w said })
+    (subst (λ (l : List Event). Reached (image_of first) es l index reads image said) (log_next seen calls index d s w same (omega (arith, lt, ap length same))) old.0) old.1.chosen
+    (record { nothing = λ is. says.nothing (old.1.stays.nothing is); all = λ is. says.all (old.1.stays.all is) ∙ says_alone call s w said })
 
 -- A stop behind the last call of a log.
 pub log_chosen_last : (first : Images) (calls : List Call) (index : ℕ) (es : List Event) (s w : List ℕ) (k now : Keeping) (reads image : Image) (said : List ℕ)
-    → length calls ≤ index → ReachedChosen (image_of first) es (events (drop index calls) s w) index k now reads image said → KeepsChosen k (image_of first) es index image said
+    → length calls ≤ index → Reached (image_of first) es (events (drop index calls) s w) index reads image said × KeptSoFar (image_of first) (take index es) k now image
+    → KeepsChosen k (image_of first) es index image said
 log_chosen_last first calls index es s w k now reads image said le old =
-    chosen_last (image_of first) es index k reads image said (subst (λ (l : List Call). Reached (image_of first) es (events l s w) index reads image said) (drop_all index calls le) old.reached) old.chosen
+    chosen_last (image_of first) es index k reads image said (subst (λ (l : List Call). Reached (image_of first) es (events l s w) index reads image said) (drop_all index calls le) old.0) old.1.chosen
 
 -- Behind a call that syncs it a part is as it was read, and where none does, as it was at first.
 pub up_to_none : (p : Part) (es : List Event) → list_any (syncs p) es ≡ false → up_to_sync p es ≡ []

@@ -5,7 +5,7 @@ use Rattle.ziti_outside.specs.Images.{Image}
 use Rattle.desk_base.specs.declared.stopping.Keeping.{Keeping}
 use Rattle.desk_base.specs.declared.stopping.Keeping.TheVariants as choice
 use Rattle.desk_base.specs.MemEvents.{Event, Saying, Writing, Cutting, Syncing, with_part, written_over, said_by}
-use Rattle.desk_base.specs.StopPoints.{synced_parts, whole_parts, KeepsNothing, KeepsAll, Reached}
+use Rattle.desk_base.specs.StopPoints.{synced_parts, whole_parts, KeepsNothing, KeepsAll}
 
 -- What a call does to the parts that a stop finds, where nothing that is pending is kept: a sync alone brings a part to what it reads.
 abbrev pub synced_by : Event → Image → Image → Image
@@ -46,8 +46,7 @@ pub record KeepsChosen (keeping : Keeping) (first : Image) (events : List Event)
   pub nothing : keeping ≡ choice.Nothing → KeepsNothing first events moment image taken
   pub all : keeping ≡ choice.All → KeepsAll first events moment image taken
 
--- A stop that was found behind some of the calls of a log, and how much is kept of the others.
-pub record ReachedChosen (first : Image) (events rest : List Event) (count : ℕ) (keeping now : Keeping) (reads image : Image) (said : List ℕ) : Type 0 where
-  pub reached : Reached first events rest count reads image said
-  pub chosen : ChosenAt first (take count events) keeping image
+-- How much is kept of some calls by a stop that was found behind them: the parts that it found, and what is kept goes on so.
+pub record KeptSoFar (first : Image) (done : List Event) (keeping now : Keeping) (image : Image) : Type 0 where
+  pub chosen : ChosenAt first done keeping image
   pub stays : StaysChosen keeping now

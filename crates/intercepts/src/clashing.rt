@@ -6,38 +6,11 @@ ghost use Rattle.ctrl_model.specs.InterceptForm.{same_ports};
 
 use ctrl_model::{Address, Intercept, PortRange};
 
-// Whether two addresses are the same.
-fn same_address(address: &Address, other: &Address) -> bool
-    ensures { result ≡ same_address address.now other.now }
-{
-    match (address, other) {
-        (Address::Host { text }, Address::Host { text: other }) => text.as_slice()
-            == other.as_slice(),
-        (Address::Under { text }, Address::Under { text: other }) => text.as_slice()
-            == other.as_slice(),
-        (
-            Address::Range { ip, bits },
-            Address::Range {
-                ip: other,
-                bits: others,
-            },
-        ) => ip == other && bits == others,
-        _ => false,
-    }
-}
-
-// Whether two ranges of ports are the same.
-fn same_ports(range: &PortRange, other: &PortRange) -> bool
-    ensures { result ≡ same_ports range.now other.now }
-{
-    range.low == other.low && range.high == other.high
-}
-
 // Whether an address is one of some.
 fn is_among_addresses(address: &Address, others: &[Address]) -> bool
     ensures { result ≡ list_any (same_address address.now) others.now }
 {
-    others.iter().any(|other| same_address(address, other))
+    others.iter().any(|other| address.is_same(other))
 }
 
 // Whether some addresses have one in common.
@@ -53,7 +26,7 @@ fn share_address(addresses: &[Address], others: &[Address]) -> bool
 fn is_among_ranges(range: &PortRange, others: &[PortRange]) -> bool
     ensures { result ≡ list_any (same_ports range.now) others.now }
 {
-    others.iter().any(|other| same_ports(range, other))
+    others.iter().any(|other| range.is_same(other))
 }
 
 // Whether some ranges of ports have one in common.

@@ -129,12 +129,6 @@ fn same_text(text: &[u8], other: &[u8]) -> bool
     text == other
 }
 
-fn same_ports(range: PortRange, other: PortRange) -> bool
-    ensures { result ≡ same_ports range other }
-{
-    range.low == other.low && range.high == other.high
-}
-
 // Whether one of so many texts of addresses is a given one.
 fn has_spelling(count: u8, bytes: &[u8], text: &[u8]) -> bool
     ensures { result ≡ list_any (λ a. bytes_eq text.now (address_text a)) (things_in front_address count bytes.now) }
@@ -177,7 +171,7 @@ fn has_port_range(count: u8, bytes: &[u8], range: PortRange) -> bool
         let Some((next, after)) = split_port_range(rest) else {
             return false;
         };
-        if same_ports(range, next) {
+        if range.is_same(&next) {
             return true;
         }
         rest = after;

@@ -1,7 +1,7 @@
-use Rattle.std.proofs.Common.{◌≡◌, ℕ, length, drop, ap, arith, subst}
+use Rattle.std.proofs.Common.{◌≡◌, ℕ, length, drop, take, ap, arith, subst}
 use Rattle.desk_base.specs.MemEvents.{image_of, events, logged}
 use Rattle.desk_base.specs.StopPoints.{Reached}
-use Rattle.desk_base.specs.KeptSteps.{ReachedChosen}
+use Rattle.desk_base.specs.KeptSteps.{KeptSoFar}
 use Rattle.desk_base.proofs.StopLaws.{log_within, log_last}
 use Rattle.desk_base.proofs.KeptLaws.{chosen_none, log_chosen, log_chosen_within, log_chosen_last}
 use Rattle.desk_base.proofs.stopping.stop_at.Goals as goal
@@ -24,7 +24,7 @@ returns-clause-found c =
     let log = c.args.log.now in
     let es = logged log c.args.said.now in
     let there : c.calls.index ≡ c.args.moment = omega (arith, c.calls.auto.index-end, c.calls-test.false) in
-    let reached = subst (λ (n : ℕ). Reached (image_of c.args.first.now) es (events (drop n log.calls.items) c.calls.said.now c.calls.written.now) n (image_of c.calls.stop.reads) (image_of c.calls.stop.image) c.calls.stop.taken.items) there c.calls.invariant.reached in
+    let reached = subst (λ (n : ℕ). Reached (image_of c.args.first.now) es (events (drop n log.calls.items) c.calls.said.now c.calls.written.now) n (image_of c.calls.stop.reads) (image_of c.calls.stop.image) c.calls.stop.taken.items) there c.calls.invariant.0 in
     elim c.if-moment-calls.branch [
       | then-moment-calls+in_ok-say_within w ↦ rw w.stop-is
           (log_within c.args.first.now c.as_slice-calls.result.now log.calls.items c.args.moment _ es c.calls.said.now c.calls.written.now (image_of c.calls.stop.reads) (image_of c.calls.stop.image) c.calls.stop.taken.items w.say_within.new.taken.items
@@ -39,7 +39,9 @@ returns-clause-chosen c =
     let log = c.args.log.now in
     let es = logged log c.args.said.now in
     let there : c.calls.index ≡ c.args.moment = omega (arith, c.calls.auto.index-end, c.calls-test.false) in
-    let reached = subst (λ (n : ℕ). ReachedChosen (image_of c.args.first.now) es (events (drop n log.calls.items) c.calls.said.now c.calls.written.now) n c.args.keeping.now c.calls.keeping (image_of c.calls.stop.reads) (image_of c.calls.stop.image) c.calls.stop.taken.items) there c.calls.invariant in
+    let first = image_of c.args.first.now in
+    let image = image_of c.calls.stop.image in
+    let reached = subst (λ (n : ℕ). Reached first es (events (drop n log.calls.items) c.calls.said.now c.calls.written.now) n (image_of c.calls.stop.reads) image c.calls.stop.taken.items × KeptSoFar first (take n es) c.args.keeping.now c.calls.keeping image) there c.calls.invariant in
     elim c.if-moment-calls.branch [
       | then-moment-calls+in_ok-say_within w ↦ rw w.stop-is
           (log_chosen_within c.args.first.now c.as_slice-calls.result.now log.calls.items c.args.moment _ es c.calls.said.now c.calls.written.now c.args.keeping.now c.calls.keeping (image_of c.calls.stop.reads) (image_of c.calls.stop.image) c.calls.stop.taken.items w.say_within.new.taken.items
