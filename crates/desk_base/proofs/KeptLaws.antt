@@ -208,10 +208,13 @@ keeps_from a b e r old new stays by = record { nothing = λ is. by.nothing (stay
 
 -- A stop at the start of a log.
 pub chosen_none : (first reads image : Image) (es : List Event) (k : Keeping) (said : List ℕ) → reads ≡ first → image ≡ first → said ≡ [] → Reached first es es 0 reads image said × KeptSoFar first (take 0 es) k k image
-chosen_none first reads image es k said e f g = reached_none first reads image es said e f g , record {
-  chosen = record { nothing = λ is p. ap (λ (i : Image). i p) f; all = λ is p. ap (λ (i : Image). i p) f };
-  stays = record { nothing = λ is. is; all = λ is. is };
-}
+chosen_none first reads image es k said e f g = (
+  reached_none first reads image es said e f g,
+  record {
+    chosen = record { nothing = λ is p. ap (λ (i : Image). i p) f; all = λ is p. ap (λ (i : Image). i p) f };
+    stays = record { nothing = λ is. is; all = λ is. is };
+  },
+)
 
 -- A stop one call of a log later.
 pub log_chosen : (first : Images) (seen calls : List Call) (index : ℕ) (d : Call) (es : List Event) (s w s_now w_now : List ℕ) (k now later : Keeping) (reads reads_now image image_now : Image) (said said_now : List ℕ)
@@ -222,12 +225,14 @@ pub log_chosen : (first : Images) (seen calls : List Call) (index : ℕ) (d : Ca
     → Reached (image_of first) es (events (drop (index + 1) calls) s_now w_now) (index + 1) reads_now image_now said_now × KeptSoFar (image_of first) (take (index + 1) es) k later image_now
 log_chosen first seen calls index d es s w s_now w_now k now later reads reads_now image image_now said said_now same lt same_said same_written old r kept t by stays =
     let e = event_of (get_or seen index d) s w in
-    let rest = events (drop (index + 1) calls) (said_past (get_or seen index d) s) (written_past (get_or seen index d) w) in
-    log_more first seen calls index d es s w s_now w_now reads reads_now image image_now said said_now same lt same_said same_written old.0 r kept t , record {
-      chosen = chosen_more (image_of first) es rest index e k reads image image_now said
-          (subst (λ (l : List Event). Reached (image_of first) es l index reads image said) (log_next seen calls index d s w same lt) old.0) (keeps_from k now e reads image image_now old.1.stays by) old.1.chosen;
-      stays = stays_on k now later old.1.stays stays;
-    }
+    let rest = events (drop (index + 1) calls) (said_past (get_or seen index d) s) (written_past (get_or seen index d) w) in (
+      log_more first seen calls index d es s w s_now w_now reads reads_now image image_now said said_now same lt same_said same_written old.0 r kept t,
+      record {
+        chosen = chosen_more (image_of first) es rest index e k reads image image_now said
+            (subst (λ (l : List Event). Reached (image_of first) es l index reads image said) (log_next seen calls index d s w same lt) old.0) (keeps_from k now e reads image image_now old.1.stays by) old.1.chosen;
+        stays = stays_on k now later old.1.stays stays;
+      },
+    )
 
 -- A stop within a call of a log.
 pub log_chosen_within : (first : Images) (seen calls : List Call) (index : ℕ) (d : Call) (es : List Event) (s w : List ℕ) (k now : Keeping) (reads image : Image) (said taken : List ℕ)

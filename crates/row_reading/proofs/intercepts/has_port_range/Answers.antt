@@ -9,15 +9,15 @@ returns-in_default c =
     let none : front_port_range c.ports.rest.now ≡ None = grind arith in
     any_ends (same_ports c.args.range) front_port_range c.args.count c.ports.counter c.ports.rest.now _ c.ports.invariant c.ports-test.true none
 
-pub returns-then-same_ports : goal.returns-then-same_ports
-returns-then-same_ports c =
+pub returns-then-is_same : goal.returns-then-is_same
+returns-then-is_same c =
     any_found (same_ports c.args.range) front_port_range c.args.count c.ports.counter c.ports.rest.now _ c.ports.invariant c.in-Some.next c.in-Some.after.now c.ports-test.true (sym c.in-Some.ensures)
-    (sym c.same_ports.ensures ∙ c.if-same_ports.true)
+    (sym c.is_same.ensures ∙ c.if-is_same.true)
 
 pub ports-preserved : goal.ports-preserved
 ports-preserved c =
     any_on (same_ports c.args.range) front_port_range c.args.count c.ports.counter c.ports.rest.now _ c.ports.invariant c.in-Some.next c.in-Some.after.now c.ports-test.true (sym c.in-Some.ensures)
-    (sym c.same_ports.ensures ∙ c.if-same_ports.false)
+    (sym c.is_same.ensures ∙ c.if-is_same.false)
 
 pub returns : goal.returns
 returns c = any_done (same_ports c.args.range) front_port_range c.args.count c.ports.counter c.ports.rest.now _ c.ports.invariant c.ports-test.false
