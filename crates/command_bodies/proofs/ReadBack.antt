@@ -22,7 +22,7 @@ use Rattle.ctrl_model.specs.Matches.{has_name}
 use Rattle.ctrl_model.specs.Words.{word_of}
 use Rattle.ctrl_model.proofs.DistinctLaws.{same_bytes}
 use Rattle.json_body.specs.declared.fields.FieldFault.TheVariants.{WrongKind}
-use Rattle.json_body.specs.FieldKinds.{are_words_of, has_only, is_word_of, member_of, required_from, optional_from}
+use Rattle.json_body.specs.FieldKinds.{are_words_of, is_word_of, member_of, required_from, optional_from}
 use Rattle.command_codec.specs.declared.body_kinds.BodyKind.{BodyKind}
 use Rattle.command_codec.specs.declared.body_kinds.BodyKind.TheVariants as body
 use Rattle.command_codec.specs.BodyForms.{BodyField, Form, Values, ◌&◌, fields_in, made_of}
@@ -32,7 +32,7 @@ use Rattle.command_codec.specs.BodyObjects.{object_of_body, said_by, with_cause}
 use Rattle.command_codec.specs.CommandForms.{Row, all_rows, form_under, row_at}
 use Rattle.command_codec.specs.ContentTypes.{content_of}
 use Rattle.command_codec.specs.SpelledBodies.{Tells, TellsEach}
-use Rattle.command_codec.proofs.KindLaws.{AllTrue, RowHolds, all_checks, all_hold, checks, hold_parts, row_of_all, rows_hold, true_parts}
+use Rattle.command_codec.proofs.KindLaws.{AllTrue, RowHolds, all_checks, checks, hold_parts, row_of_all, rows_hold, true_parts}
 use Rattle.command_codec.proofs.SpelledLaws.{said_where}
 use Rattle.command_bodies.specs.BodyTexts.{body_object}
 use Rattle.command_bodies.specs.CommandFields.{written, each_written, with_given, given_fields, values_of}
@@ -159,14 +159,14 @@ AreAbsent form ms = AllByRecursion (λ (f : BodyField). get_member (word_of f.of
 
 still_absent : (of_field : Field) (w : Option Given) (fs : Form) (ms : Members) → not (has_name (words fs) (word_of of_field)) ≡ true → AreAbsent fs ms → AreAbsent fs (one_put of_field w ms)
 still_absent of_field w [] ms other absent = tt
-still_absent of_field w (f ∷ fs) ms other absent = by (bytes_eq (word_of f.of_field) (word_of of_field)) refl other
+still_absent of_field w (f ∷ fs) ms other absent = by (bytes_eq (word_of f.of_field) (word_of of_field)) refl other (λ rest. still_absent of_field w fs ms rest absent.1)
   where
     by : (b : Bool) → bytes_eq (word_of f.of_field) (word_of of_field) ≡ b → not (b || has_name (words fs) (word_of of_field)) ≡ true
-        → AreAbsent (f ∷ fs) (one_put of_field w ms)
-    by true is other = absurd (false≢true other)
-    by false is other =
+        → (not (has_name (words fs) (word_of of_field)) ≡ true → AreAbsent fs (one_put of_field w ms)) → AreAbsent (f ∷ fs) (one_put of_field w ms)
+    by true is other more = absurd (false≢true other)
+    by false is other more =
         let one : word_of f.of_field ≡ word_of of_field → ⊥ = λ same. false≢true (sym is ∙ same_bytes (word_of f.of_field) (word_of of_field) same) in
-        (one_put-other (word_of f.of_field) of_field w ms one ∙ absent.0) & still_absent of_field w fs ms other absent.1
+        (one_put-other (word_of f.of_field) of_field w ms one ∙ absent.0) & more other
 
 -- What a form asks for its body to be read back: no word stands twice, and a value of which nothing is written is the one of a field
 -- that is left out.
@@ -218,14 +218,16 @@ are_known fields fs = list_all (λ f. is_word_of fields (word_of f)) fs
 
 all_words : (fields fs : List Field) (gs : List (Option Given)) (ms : Members) → are_known fields fs ≡ true → are_words_of fields ms ≡ true
     → are_words_of fields (with_fields (given_fields fs gs) ms) ≡ true
-all_words fields [] gs ms known are = are
-all_words fields (f ∷ fs) [] ms known are = are
-all_words fields (f ∷ fs) (g ∷ gs) ms known are = by g (and_parts (is_word_of fields (word_of f)) (are_known fields fs) known)
+all_words fields fs [] ms known are = are
+all_words fields [] (g ∷ gs) ms known are = are
+all_words fields (f ∷ fs) (g ∷ gs) ms known are =
+    let p = and_parts (is_word_of fields (word_of f)) (are_known fields fs) known in by g p.0 (λ ns kept. all_words fields fs gs ns p.1 kept)
   where
-    by : (w : Option Given) → (is_word_of fields (word_of f) ≡ true) × (are_known fields fs ≡ true)
+    by : (w : Option Given) → is_word_of fields (word_of f) ≡ true
+        → ((ns : Members) → are_words_of fields ns ≡ true → are_words_of fields (with_fields (given_fields fs gs) ns) ≡ true)
         → are_words_of fields (with_fields (with_given f w (given_fields fs gs)) ms) ≡ true
-    by None p = all_words fields fs gs ms p.1 are
-    by (Some h) p = all_words fields fs gs (with_field (f, h) ms) p.1 (put_words fields (word_of f) (data_of h) ms p.0 are)
+    by None word more = more ms are
+    by (Some h) word more = more (with_field (f, h) ms) (put_words fields (word_of f) (data_of h) ms word are)
 
 -- ---- the rows
 

@@ -107,8 +107,9 @@ with_given of_field (Some g) fs = (of_field, g) ∷ fs
 
 -- The fields of which something is written.
 abbrev pub given_fields : List Field → List (Option Given) → GivenFields
+given_fields fs [] = []
+given_fields [] (g ∷ gs) = []
 given_fields (f ∷ fs) (g ∷ gs) = with_given f g (given_fields fs gs)
-given_fields _ _ = []
 
 -- The fields that the body of a command gives.
 abbrev pub fields_of : Command → GivenFields

@@ -1,5 +1,5 @@
 -- What the code writes of the value of a field. Private contracts alone cite it.
-use Rattle.std.specs.Prelude.{Bool, true, List, map, None, Some}
+use Rattle.std.specs.Prelude.{Bool, true, map, Some}
 use Rattle.std.specs.declared.option.Option.{Option}
 use Rattle.std.specs.List.{list_all}
 use Rattle.ctrl_model.specs.AddressForm.{address_text, is_address}

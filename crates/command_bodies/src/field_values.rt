@@ -73,7 +73,7 @@ fn put_given(
 }
 
 // Puts what is written of each value, in the field at its place.
-pub(crate) fn put_each(
+fn put_each(
     alloc: Global,
     members: &mut Map<String, Value>,
     fields: &[Field],
@@ -89,4 +89,23 @@ pub(crate) fn put_each(
         put_given(alloc, members, *field, *value)?;
     }
     Ok(())
+}
+
+// The members of a body that were put, and the fields of its form.
+#[derive(Drop)]
+pub(crate) struct BodyMembers {
+    pub(crate) alloc: Global,
+    pub(crate) fields: &'static [Field],
+    pub(crate) members: Map<String, Value>,
+}
+
+impl BodyMembers {
+    // Puts what is written of a value for each field.
+    pub(crate) fn put(&mut self, values: &[FieldValue]) -> Result<(), AllocError>
+        requires { list_all has_spelling values.now ≡ true }
+        ensures fields { self.new.fields ≡ self.old.fields }
+        ensures put { OnOk result (members_view self.new.members.entries ≡ with_fields (given_fields self.old.fields.now (map given_by values.now)) (members_view self.old.members.entries)) }
+    {
+        put_each(self.alloc, &mut self.members, self.fields, values)
+    }
 }

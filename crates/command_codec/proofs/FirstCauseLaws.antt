@@ -8,10 +8,10 @@ use Rattle.ctrl_model.specs.declared.commands.Command.{Command}
 use Rattle.ctrl_model.specs.declared.refusals.Field.{Field}
 use Rattle.json_body.specs.declared.fields.FieldFault.{FieldFault}
 use Rattle.json_body.specs.declared.fields.FieldFault.TheVariants.{Missing, WrongKind, Unknown}
-use Rattle.json_body.specs.FieldKinds.{member_of, required_from, required, optional_from, optional, has_only, finished}
+use Rattle.json_body.specs.FieldKinds.{member_of, required_from, required, optional_from, optional, has_only}
 use Rattle.command_codec.specs.BodyObjects.{◌>>=◌}
 use Rattle.body_fields.specs.FieldRules.{FieldRule, needs, may_have, Breaks, Keeps, BreaksFirst, HasAnotherKey, rule_of}
-use Rattle.command_codec.specs.BodyForms.{BodyField, Form, Makes, asked_by, fields_in, rules_in}
+use Rattle.command_codec.specs.BodyForms.{BodyField, Form, Makes, asked_by, rules_in}
 use Rattle.command_codec.specs.declared.body_kinds.BodyKind.{BodyKind}
 use Rattle.command_codec.specs.declared.body_kinds.BodyKind.TheVariants as body
 use Rattle.command_codec.specs.BodyKinds.{Said, as_kind, is_of_kind}

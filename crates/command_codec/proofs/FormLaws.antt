@@ -13,10 +13,9 @@ use Rattle.body_fields.specs.declared.field_rules.AskedField.{AskedField}
 use Rattle.body_fields.specs.FieldRules.{FieldRule, Breaks, IsFirstAmong, rules_of}
 use Rattle.command_codec.specs.declared.body_forms.BodyForm.{BodyForm}
 use Rattle.command_codec.specs.declared.body_kinds.BodyKind.{BodyKind}
-use Rattle.command_codec.specs.BodyForms.{fields_in, rules_in}
+use Rattle.command_codec.specs.BodyForms.{fields_in}
 use Rattle.command_codec.specs.BodyKinds.{is_of_kind}
-use Rattle.command_codec.specs.BodyMeaning.{given, ended, said_in, said_under, given_under}
-use Rattle.command_codec.specs.BodyObjects.{◌>>=◌}
+use Rattle.command_codec.specs.BodyMeaning.{given, said_in, said_under, given_under}
 use Rattle.command_codec.specs.CommandForms.{Row, form_at, form_under, row_at}
 use Rattle.command_codec.specs.FormRules.{form_asks, row_asks}
 use Rattle.command_codec.proofs.CauseLaws.{row_follows}

@@ -1,13 +1,11 @@
 -- What values say keeps the kinds, the ranges and the lengths of fields, and the commands that are made of such values are those
 -- which some body spells.
-use Rattle.std.proofs.Common.{◌≡◌, ℕ, ◌==◌, nat_le, Bool, true, false, cond, ◌&&◌, ◌||◌, List, [], ◌∷◌, ◌++◌, length, codes, bytes_eq, Option, Some, None, refl, sym, ap, ◌∙◌, subst, eqb-true, arith, le-leb}
-use Rattle.std.specs.Prelude.{⊤}
+use Rattle.std.proofs.Common.{◌≡◌, ℕ, ◌==◌, nat_le, Bool, true, false, cond, ◌&&◌, ◌||◌, List, [], ◌∷◌, ◌++◌, length, codes, bytes_eq, Option, Some, None, refl, sym, ap, subst, eqb-true, arith, le-leb}
 use Rattle.std.specs.List.{AllByRecursion, list_all}
 use Rattle.std.proofs.lemmas.Bool.{and_from, and_parts}
 use Rattle.std.proofs.lemmas.Option.{cond_some, option_and_then_some, same_Some}
 use Rattle.serde_json.specs.Data.{Data}
 use Rattle.serde_json.specs.Find.{as_str}
-use Rattle.ctrl_model.specs.declared.addresses.Address.{Address}
 use Rattle.ctrl_model.specs.declared.commands.Command.TheVariants as command
 use Rattle.ctrl_model.specs.declared.kinds.Kind.TheVariants as kind
 use Rattle.ctrl_model.specs.declared.kinds.Relation.{Relation}
@@ -26,7 +24,7 @@ use Rattle.body_fields.proofs.InterceptLaws.{protocols-form, addresses-form, des
 use Rattle.body_fields.proofs.ItemLaws.{by_mapped}
 use Rattle.command_codec.specs.declared.body_kinds.BodyKind.{BodyKind}
 use Rattle.command_codec.specs.declared.body_kinds.BodyKind.TheVariants as body
-use Rattle.command_codec.specs.BodyForms.{BodyField, Form, Values, ◌&◌, made_of}
+use Rattle.command_codec.specs.BodyForms.{Form, Values, ◌&◌, made_of}
 use Rattle.command_codec.specs.BodyKinds.{Said, as_kind}
 use Rattle.command_codec.specs.CommandForms.{Row, all_rows, claim, row_in, row_at}
 use Rattle.command_codec.specs.ContentTypes.{content_of}

@@ -10,16 +10,16 @@ use Rattle.ctrl_model.specs.declared.refusals.Field.{Field}
 use Rattle.ctrl_model.specs.CommandForm.{is_spelled}
 use Rattle.json_body.specs.declared.fields.FieldFault.{FieldFault}
 use Rattle.json_body.specs.declared.fields.FieldFault.TheVariants.{WrongKind, Unknown}
-use Rattle.json_body.specs.FieldKinds.{member_of, required_from, required, optional_from, optional, has_only, finished}
+use Rattle.json_body.specs.FieldKinds.{member_of, required_from, optional_from, has_only}
 use Rattle.command_codec.specs.declared.body_kinds.BodyKind.{BodyKind}
-use Rattle.command_codec.specs.BodyForms.{BodyField, Form, Makes, Values, ◌&◌, fields_in, made_of}
+use Rattle.command_codec.specs.BodyForms.{Form, Makes, Values, ◌&◌, fields_in, made_of}
 use Rattle.command_codec.specs.BodyKinds.{Said, as_kind}
 use Rattle.command_codec.specs.BodyMeaning.{said_of, field_said, given, ended, said_in, meaning_under, meaning}
 use Rattle.command_codec.specs.BodyObjects.{◌>>=◌, object_of_body, with_cause, said_by}
 use Rattle.command_codec.specs.CommandForms.{Row, all_rows, row_at}
 use Rattle.command_codec.specs.ContentTypes.{content_of}
-use Rattle.command_codec.specs.SpelledBodies.{Tells, TellsEach, Gives, GivesFields, Spells}
-use Rattle.command_codec.proofs.KindLaws.{AllTrue, all_checks, all_hold, checks, default_holds, defaults_hold, hold_from, hold_parts, both_true, kind_holds, row_content, row_holds}
+use Rattle.command_codec.specs.SpelledBodies.{TellsEach, Gives, GivesFields, Spells}
+use Rattle.command_codec.proofs.KindLaws.{AllTrue, all_checks, checks, default_holds, defaults_hold, hold_from, hold_parts, both_true, kind_holds, row_content, row_holds}
 
 ok_same : {A E : Type 0} (x y : A) → ◌≡◌ {A = Result A E} (Ok x) (Ok y) → x ≡ y
 ok_same x y e = cc

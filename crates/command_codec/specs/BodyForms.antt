@@ -1,6 +1,6 @@
 -- The form of the body of a command: its fields in their order, each with the kind of its values and, where it may be left out, the
 -- value that it then has. What a body spells, why it spells nothing, and the body that is written follow from it.
-use Rattle.std.specs.Prelude.{ℕ, ⊤, List, [], ◌∷◌, map, None, Some}
+use Rattle.std.specs.Prelude.{⊤, List, [], ◌∷◌, map, None, Some}
 use Rattle.std.specs.declared.option.Option.{Option}
 use Rattle.ctrl_model.specs.declared.commands.Command.{Command}
 use Rattle.ctrl_model.specs.declared.refusals.Field.{Field}

@@ -117,6 +117,7 @@ pub record Row : Type 0 where
   pub form : Form
   pub make : Makes form
 
+-- A row.
 abbrev pub row : ℕ → (form : Form) → Makes form → Row
 row content form make = record { content = content; form = form; make = make }
 
@@ -192,7 +193,7 @@ show_rows =
 abbrev pub intercept_rows : List Row
 intercept_rows =
     row 1600 intercept (λ service protocols addresses ports.
-        command.SetIntercept service (record { tcp = protocols.tcp; udp = protocols.udp; addresses = addresses; ports = ports }))
+    command.SetIntercept service (record { tcp = protocols.tcp; udp = protocols.udp; addresses = addresses; ports = ports }))
     ∷ row 1601 (name_in field.Service) command.ClearIntercept
     ∷ row 1610 destination command.Pick
     ∷ row 1611 (needs body.Name field.Identity ∷ needs body.Name field.Service ∷ []) command.ListClashes

@@ -100,7 +100,12 @@ const MADE_ROUTER: BodyForm = BodyForm {
         Optional(Field::Cost, COST),
         Optional(Field::NoTraversal, BodyKind::Flag),
     ],
-    allowed: &[Field::Name, Field::Attributes, Field::Cost, Field::NoTraversal],
+    allowed: &[
+        Field::Name,
+        Field::Attributes,
+        Field::Cost,
+        Field::NoTraversal,
+    ],
 };
 
 const UPDATED_ROUTER: BodyForm = BodyForm {
@@ -110,7 +115,12 @@ const UPDATED_ROUTER: BodyForm = BodyForm {
         Needed(Field::Cost, COST),
         Needed(Field::NoTraversal, BodyKind::Flag),
     ],
-    allowed: &[Field::Name, Field::Attributes, Field::Cost, Field::NoTraversal],
+    allowed: &[
+        Field::Name,
+        Field::Attributes,
+        Field::Cost,
+        Field::NoTraversal,
+    ],
 };
 
 // A policy of each kind.
@@ -122,7 +132,13 @@ const SERVICE_POLICY: BodyForm = BodyForm {
         Needed(Field::IdentityRoles, BodyKind::Side),
         Needed(Field::ServiceRoles, BodyKind::Side),
     ],
-    allowed: &[Field::Name, Field::PolicyType, Field::Semantic, Field::IdentityRoles, Field::ServiceRoles],
+    allowed: &[
+        Field::Name,
+        Field::PolicyType,
+        Field::Semantic,
+        Field::IdentityRoles,
+        Field::ServiceRoles,
+    ],
 };
 
 const EDGE_ROUTER_POLICY: BodyForm = BodyForm {
@@ -132,7 +148,12 @@ const EDGE_ROUTER_POLICY: BodyForm = BodyForm {
         Needed(Field::IdentityRoles, BodyKind::Side),
         Needed(Field::RouterRoles, BodyKind::Side),
     ],
-    allowed: &[Field::Name, Field::Semantic, Field::IdentityRoles, Field::RouterRoles],
+    allowed: &[
+        Field::Name,
+        Field::Semantic,
+        Field::IdentityRoles,
+        Field::RouterRoles,
+    ],
 };
 
 const SERVICE_EDGE_ROUTER_POLICY: BodyForm = BodyForm {
@@ -142,7 +163,12 @@ const SERVICE_EDGE_ROUTER_POLICY: BodyForm = BodyForm {
         Needed(Field::ServiceRoles, BodyKind::Side),
         Needed(Field::RouterRoles, BodyKind::Side),
     ],
-    allowed: &[Field::Name, Field::Semantic, Field::ServiceRoles, Field::RouterRoles],
+    allowed: &[
+        Field::Name,
+        Field::Semantic,
+        Field::ServiceRoles,
+        Field::RouterRoles,
+    ],
 };
 
 // A link that is made, and what is set or reported of one.
@@ -155,7 +181,14 @@ const MADE_LINK: BodyForm = BodyForm {
         Optional(Field::LatencyA, LATENCY),
         Optional(Field::LatencyB, LATENCY),
     ],
-    allowed: &[Field::Name, Field::A, Field::B, Field::Cost, Field::LatencyA, Field::LatencyB],
+    allowed: &[
+        Field::Name,
+        Field::A,
+        Field::B,
+        Field::Cost,
+        Field::LatencyA,
+        Field::LatencyB,
+    ],
 };
 
 const COST_OF_LINK: BodyForm = BodyForm {
@@ -200,7 +233,14 @@ const MADE_TERMINATOR: BodyForm = BodyForm {
         Optional(Field::Cost, COST),
         Optional(Field::Precedence, BodyKind::Precedence),
     ],
-    allowed: &[Field::Service, Field::Router, Field::Instance, Field::Host, Field::Cost, Field::Precedence],
+    allowed: &[
+        Field::Service,
+        Field::Router,
+        Field::Instance,
+        Field::Host,
+        Field::Cost,
+        Field::Precedence,
+    ],
 };
 
 const UPDATED_TERMINATOR: BodyForm = BodyForm {
@@ -220,7 +260,12 @@ const ASKED_CIRCUIT: BodyForm = BodyForm {
         Optional(Field::Ingress, BodyKind::NameOrNone),
         Optional(Field::Instance, BodyKind::Instance),
     ],
-    allowed: &[Field::Identity, Field::Service, Field::Ingress, Field::Instance],
+    allowed: &[
+        Field::Identity,
+        Field::Service,
+        Field::Ingress,
+        Field::Instance,
+    ],
 };
 
 const CLAIMED_ROUTE: BodyForm = BodyForm {
@@ -236,7 +281,18 @@ const CLAIMED_ROUTE: BodyForm = BodyForm {
         Needed(Field::Terminator, NUMBER_OF_RECORD),
         Needed(Field::Total, TOTAL),
     ],
-    allowed: &[Field::Identity, Field::Service, Field::Ingress, Field::Instance, Field::Chosen, Field::Links, Field::Potentials, Field::Routers, Field::Terminator, Field::Total],
+    allowed: &[
+        Field::Identity,
+        Field::Service,
+        Field::Ingress,
+        Field::Instance,
+        Field::Chosen,
+        Field::Links,
+        Field::Potentials,
+        Field::Routers,
+        Field::Terminator,
+        Field::Total,
+    ],
 };
 
 // An intercept that is set, a destination whose service is picked, and a service whose clashes are listed.
@@ -247,7 +303,12 @@ const CLAIM: BodyForm = BodyForm {
         Needed(Field::Addresses, BodyKind::Addresses),
         Needed(Field::Ports, BodyKind::Ranges),
     ],
-    allowed: &[Field::Service, Field::Protocols, Field::Addresses, Field::Ports],
+    allowed: &[
+        Field::Service,
+        Field::Protocols,
+        Field::Addresses,
+        Field::Ports,
+    ],
 };
 
 const DESTINATION: BodyForm = BodyForm {
@@ -257,7 +318,12 @@ const DESTINATION: BodyForm = BodyForm {
         Needed(Field::Address, BodyKind::Destination),
         Needed(Field::Port, PORT),
     ],
-    allowed: &[Field::Identity, Field::Protocol, Field::Address, Field::Port],
+    allowed: &[
+        Field::Identity,
+        Field::Protocol,
+        Field::Address,
+        Field::Port,
+    ],
 };
 
 const CLASHES: BodyForm = BodyForm {

@@ -19,9 +19,8 @@ use crate::content_types::{
 };
 use crate::role_lists::side;
 use body_fields::{
-    addresses, destination, flag_or_not, instance_or_empty, name_or_none, number_or,
-    numbers, potentials, precedence, precedence_or_default, protocol, protocols, ranges, relation,
-    semantic,
+    addresses, destination, flag_or_not, instance_or_empty, name_or_none, number_or, numbers,
+    potentials, precedence, precedence_or_default, protocol, protocols, ranges, relation, semantic,
 };
 use ctrl_model::{
     Command, Field, Intercept, LONGEST_PATH, MOST_COST, MOST_LATENCY, MOST_PORT, MOST_ROUTERS,
@@ -93,7 +92,11 @@ fn router_command(alloc: Global, content: u32, fields: &Fields) -> Result<Comman
 }
 
 // The command on a service policy.
-fn service_policy_command(alloc: Global, content: u32, fields: &Fields) -> Result<Command, FieldFault>
+fn service_policy_command(
+    alloc: Global,
+    content: u32,
+    fields: &Fields,
+) -> Result<Command, FieldFault>
     requires { content < 1110 }
     ensures { Gives FieldFault.NoMemory (λ c. c) result (given_under (row_in policy_rows content) (object_of fields.now)) }
 {
@@ -119,9 +122,14 @@ fn service_policy_command(alloc: Global, content: u32, fields: &Fields) -> Resul
     }
 }
 
-// The command on a policy that gives routers.
-fn router_policy_command(alloc: Global, content: u32, fields: &Fields) -> Result<Command, FieldFault>
-    requires { 1110 ≤ content }
+// The command on a policy that gives routers to identities.
+fn edge_router_policy_command(
+    alloc: Global,
+    content: u32,
+    fields: &Fields,
+) -> Result<Command, FieldFault>
+    requires least { 1110 ≤ content }
+    requires most { content < 1120 }
     ensures { Gives FieldFault.NoMemory (λ c. c) result (given_under (row_in policy_rows content) (object_of fields.now)) }
 {
     match content {
@@ -140,6 +148,20 @@ fn router_policy_command(alloc: Global, content: u32, fields: &Fields) -> Result
         DELETE_EDGE_ROUTER_POLICY => Ok(Command::DeleteEdgeRouterPolicy {
             name: fields.name(alloc, Field::Name)?,
         }),
+        _ => Err(FieldFault::Unknown),
+    }
+}
+
+// The command on a policy that gives routers to services.
+fn service_edge_router_policy_command(
+    alloc: Global,
+    content: u32,
+    fields: &Fields,
+) -> Result<Command, FieldFault>
+    requires { 1120 ≤ content }
+    ensures { Gives FieldFault.NoMemory (λ c. c) result (given_under (row_in policy_rows content) (object_of fields.now)) }
+{
+    match content {
         CREATE_SERVICE_EDGE_ROUTER_POLICY => Ok(Command::CreateServiceEdgeRouterPolicy {
             name: fields.name(alloc, Field::Name)?,
             semantic: semantic(fields)?,
@@ -165,8 +187,10 @@ fn policy_command(alloc: Global, content: u32, fields: &Fields) -> Result<Comman
 {
     if content < CREATE_EDGE_ROUTER_POLICY {
         service_policy_command(alloc, content, fields)
+    } else if content < CREATE_SERVICE_EDGE_ROUTER_POLICY {
+        edge_router_policy_command(alloc, content, fields)
     } else {
-        router_policy_command(alloc, content, fields)
+        service_edge_router_policy_command(alloc, content, fields)
     }
 }
 

@@ -4,7 +4,7 @@ use Rattle.std.proofs.lemmas.Result.{err_from_is_err_and}
 use Rattle.serde_json.specs.View.{view}
 use Rattle.json_body.specs.declared.fields.FieldFault.TheVariants as fault
 use Rattle.json_body.specs.FieldKinds.{object_of}
-use Rattle.command_codec.specs.FormRules.{form_asks, row_asks}
+use Rattle.command_codec.specs.FormRules.{form_asks}
 use Rattle.command_codec.specs.BodyObjects.{cause_of, with_cause}
 use Rattle.command_codec.proofs.FormLaws.{no_row, with_row}
 use Rattle.command_codec.proofs.ValueLaws.{cause_memory, said_of_none, said_some, said_value, value_unsupported}
