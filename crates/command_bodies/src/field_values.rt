@@ -43,12 +43,12 @@ fn put_given(
     alloc: Global,
     members: &mut Map<String, Value>,
     field: Field,
-    value: FieldValue,
+    value: &FieldValue,
 ) -> Result<(), AllocError>
-    requires { has_spelling value ≡ true }
-    ensures { OnOk result (members_view members.new.entries ≡ with_fields (with_given field (given_by value) []) (members_view members.old.entries)) }
+    requires { has_spelling value.now ≡ true }
+    ensures { OnOk result (members_view members.new.entries ≡ with_fields (with_given field (given_by value.now) []) (members_view members.old.entries)) }
 {
-    let value = match value {
+    let written = match *value {
         FieldValue::Name(name) => return put_text(alloc, members, field, name_text(name)),
         FieldValue::NameOrNone(None) => return Ok(()),
         FieldValue::NameOrNone(Some(name)) => {
@@ -69,7 +69,7 @@ fn put_given(
         FieldValue::Addresses(addresses) => addresses_value(alloc, addresses)?,
         FieldValue::Ranges(ranges) => ranges_value(alloc, ranges)?,
     };
-    put_value(alloc, members, field, value)
+    put_value(alloc, members, field, written)
 }
 
 // Puts what is written of each value, in the field at its place.
@@ -86,7 +86,7 @@ fn put_each(
         let Some(field) = fields.get(place) else {
             return Ok(());
         };
-        put_given(alloc, members, *field, *value)?;
+        put_given(alloc, members, *field, value)?;
     }
     Ok(())
 }
