@@ -1,7 +1,6 @@
 use Rattle.std.proofs.Common.{◌≡◌, refl, ap, ◌∙◌}
 use Rattle.std.proofs.lemmas.Result.{on_ok_weaker}
 use Rattle.serde_json.specs.View.{members_view}
-use Rattle.command_bodies.specs.declared.field_values.BodyMembers.{BodyMembers}
 use Rattle.command_bodies.specs.CommandFields.{form_of}
 use Rattle.command_codec.specs.BodyForms.{fields_in}
 use Rattle.command_bodies.proofs.PutLaws.{all_put, put_between, then_put}

@@ -31,7 +31,9 @@ pub returns-in-Pick-clause-put : goal.returns-in-Pick-clause-put
 returns-in-Pick-clause-put c =
     let done = c.put-in-Pick in
     let said = c.in-Pick in
-    let worded = subst (λ (w : List ℕ). PutValues done.result c.args.body.now done.new.self (Some (a_text said.identity) ∷ Some (a_text w) ∷ Some (a_text (address_text said.address)) ∷ Some (a_number said.port) ∷ [])) c.protocol_word.ensures done.ensures.put in
+    let worded = subst (λ (w : List ℕ). PutValues done.result c.args.body.now done.new.self
+    (Some (a_text said.identity) ∷ Some (a_text w) ∷ Some (a_text (address_text said.address)) ∷ Some (a_number said.port) ∷ []))
+    c.protocol_word.ensures done.ensures.put in
     of_one (PutBetween done.result 1600 1700 c.args.body.now done.new.self) said.is worded
 
 pub returns-in-ListClashes-clause-put : goal.returns-in-ListClashes-clause-put

@@ -14,5 +14,7 @@ pub returns-in-CreateEdgeRouterPolicy-clause-put : goal.returns-in-CreateEdgeRou
 returns-in-CreateEdgeRouterPolicy-clause-put c =
     let done = c.put-in-CreateEdgeRouterPolicy in
     let said = c.in-CreateEdgeRouterPolicy in
-    let worded = subst (λ (w : List ℕ). PutValues done.result c.args.body.now done.new.self (Some (a_text said.name) ∷ Some (a_text w) ∷ Some (some_texts (role_texts said.roles)) ∷ Some (some_texts (role_texts said.router_roles)) ∷ [])) c.semantic_word.ensures done.ensures.put in
+    let worded = subst (λ (w : List ℕ). PutValues done.result c.args.body.now done.new.self
+    (Some (a_text said.name) ∷ Some (a_text w) ∷ Some (some_texts (role_texts said.roles)) ∷ Some (some_texts (role_texts said.router_roles)) ∷ []))
+    c.semantic_word.ensures done.ensures.put in
     of_four (PutBetween done.result 1110 1200 c.args.body.now done.new.self) said.is worded worded worded worded

@@ -15,6 +15,12 @@ pub returns-in-CreateServicePolicy-clause-put : goal.returns-in-CreateServicePol
 returns-in-CreateServicePolicy-clause-put c =
     let done = c.put-in-CreateServicePolicy in
     let said = c.in-CreateServicePolicy in
-    let halfway = subst (λ (w : List ℕ). PutValues done.result c.args.body.now done.new.self (Some (a_text said.name) ∷ Some (a_text w) ∷ Some (a_text c.semantic_word.result.now) ∷ Some (some_texts (role_texts said.identity_roles)) ∷ Some (some_texts (role_texts said.service_roles)) ∷ [])) c.relation_word.ensures done.ensures.put in
-    let worded = subst (λ (w : List ℕ). PutValues done.result c.args.body.now done.new.self (Some (a_text said.name) ∷ Some (a_text (relation_word said.relation)) ∷ Some (a_text w) ∷ Some (some_texts (role_texts said.identity_roles)) ∷ Some (some_texts (role_texts said.service_roles)) ∷ [])) c.semantic_word.ensures halfway in
+    let halfway = subst (λ (w : List ℕ). PutValues done.result c.args.body.now done.new.self
+    (Some (a_text said.name) ∷ Some (a_text w) ∷ Some (a_text c.semantic_word.result.now)
+    ∷ Some (some_texts (role_texts said.identity_roles)) ∷ Some (some_texts (role_texts said.service_roles)) ∷ []))
+    c.relation_word.ensures done.ensures.put in
+    let worded = subst (λ (w : List ℕ). PutValues done.result c.args.body.now done.new.self
+    (Some (a_text said.name) ∷ Some (a_text (relation_word said.relation)) ∷ Some (a_text w)
+    ∷ Some (some_texts (role_texts said.identity_roles)) ∷ Some (some_texts (role_texts said.service_roles)) ∷ []))
+    c.semantic_word.ensures halfway in
     of_two (PutBetween done.result 1100 1110 c.args.body.now done.new.self) said.is worded worded

@@ -7,14 +7,18 @@ pub returns-in-CreateTerminator-clause-put : goal.returns-in-CreateTerminator-cl
 returns-in-CreateTerminator-clause-put c =
     let done = c.put in
     let said = c.in-CreateTerminator in
-    let worded = subst (λ (w : List ℕ). PutValues done.result c.args.body.now done.new.self (Some (a_text said.service) ∷ Some (a_text said.router) ∷ Some (a_text said.instance) ∷ text_if_any said.host ∷ Some (a_number said.cost) ∷ Some (a_text w) ∷ [])) c.precedence_word.ensures done.ensures.put in
+    let worded = subst (λ (w : List ℕ). PutValues done.result c.args.body.now done.new.self
+    (Some (a_text said.service) ∷ Some (a_text said.router) ∷ Some (a_text said.instance) ∷ text_if_any said.host ∷ Some (a_number said.cost) ∷ Some (a_text w) ∷ []))
+    c.precedence_word.ensures done.ensures.put in
     of_one (PutBetween done.result 1300 1400 c.args.body.now done.new.self) said.is worded
 
 pub returns-in-UpdateTerminator-clause-put : goal.returns-in-UpdateTerminator-clause-put
 returns-in-UpdateTerminator-clause-put c =
     let done = c.put-in-UpdateTerminator in
     let said = c.in-UpdateTerminator in
-    let worded = subst (λ (w : List ℕ). PutValues done.result c.args.body.now done.new.self (Some (a_number said.no) ∷ Some (a_number said.cost) ∷ Some (a_text w) ∷ [])) c.precedence_word-in-UpdateTerminator.ensures done.ensures.put in
+    let worded = subst (λ (w : List ℕ). PutValues done.result c.args.body.now done.new.self
+    (Some (a_number said.no) ∷ Some (a_number said.cost) ∷ Some (a_text w) ∷ []))
+    c.precedence_word-in-UpdateTerminator.ensures done.ensures.put in
     of_one (PutBetween done.result 1300 1400 c.args.body.now done.new.self) said.is worded
 
 pub returns-in-DeleteTerminator-clause-put : goal.returns-in-DeleteTerminator-clause-put

@@ -1,4 +1,4 @@
-use Rattle.std.proofs.Common.{◌≡◌, ◌∙◌}
+use Rattle.std.proofs.Common.{◌∙◌}
 use Rattle.serde_json.specs.View.{members_view}
 use Rattle.command_bodies.proofs.PutLaws.{put_step}
 use Rattle.command_bodies.proofs.field_values.put_each.Goals as goal
