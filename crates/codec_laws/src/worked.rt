@@ -16,8 +16,9 @@ ghost use Rattle.body_fields.specs.InterceptFields.{as_addresses, as_ranges};
 ghost use Rattle.body_fields.specs.RouteClaims.{as_numbers, as_reach};
 ghost use Rattle.command_codec.specs.BodyMeaning.{meaning};
 ghost use Rattle.command_codec.specs.FirstCauses.{IsFirstCause};
+ghost use Rattle.command_codec.specs.SpelledBodies.{Spells};
 
-use command_codec::the_first_cause;
+use command_codec::{the_first_cause, what_a_body_spells};
 
 /// Bodies that spell a command of each kind.
 pub fn worked_bodies()
@@ -236,4 +237,15 @@ pub fn worked_first_causes()
     ensures of_hello { IsFirstCause 0 (codes "abc") (BadBody field.Nothing reason.NotObject) → ⊥ }
 {
     the_first_cause();
+}
+
+/// What bodies spell, and what they do not: a command of another content type, one with another value, and one beside another key.
+pub fn worked_spelled()
+    ensures left_out { Spells 1000 (codes "{\"name\":\"ann\"}") (command.CreateIdentity (codes "ann") []) }
+    ensures of_hello { Spells 0 (codes "abc") command.Hello }
+    ensures other_type { Spells 1010 (codes "{\"name\":\"ann\"}") (command.CreateIdentity (codes "ann") []) → ⊥ }
+    ensures other_value { Spells 1002 (codes "{\"name\":\"ann\"}") (command.DeleteIdentity (codes "bob")) → ⊥ }
+    ensures other_key { Spells 1002 (codes "{\"name\":\"ann\",\"x\":1}") (command.DeleteIdentity (codes "ann")) → ⊥ }
+{
+    what_a_body_spells();
 }

@@ -5,5 +5,5 @@ pub mod WrittenKinds
 pub mod WrittenSides
 pub mod WrittenClaims
 pub mod WrittenIntercepts
-pub mod ReadShapes
+pub mod PutLaws
 pub mod ReadBack

@@ -1,385 +1,296 @@
--- The body that is written for a command is read as the command.
-use Rattle.std.proofs.Common.{◌≡◌, ℕ, ◌==◌, nat_le, Bool, true, false, ◌&&◌, ◌||◌, List, [], ◌∷◌, length, map, Option, Some, None, Ok, refl, sym}
-use Rattle.std.specs.List.{list_all}
+-- The body that is written for a command is read as the command: each field that is written says its value, and one that is left out
+-- has it.
+use Rattle.std.proofs.Common.{◌≡◌, ℕ, ◌==◌, Bool, true, false, cond, ◌&&◌, ◌||◌, List, [], ◌∷◌, map, Option, Some, None, Ok, refl, sym, ap, ◌∙◌, subst, bytes_eq, Ordering, Less, Equal, Greater}
+use Rattle.std.specs.Prelude.{⊤, not}
+use Rattle.std.specs.Cmp.Lexicographic.{slice_cmp}
+use Rattle.std.specs.List.{AllByRecursion, list_all}
+use Rattle.std.specs.Option.{ok_or}
+use Rattle.std.specs.Ordering.{nat_cmp, match_ordering}
 use Rattle.std.specs.Str.{IsUtf8}
-use Rattle.std.proofs.lemmas.Bool.{and_parts, false≢true}
+use Rattle.std.proofs.lemmas.Bool.{and_from, and_parts, false≢true}
+use Rattle.std.proofs.lemmas.Option.{same_Some}
 use Rattle.std.proofs.lemmas.Str.{is_utf8-from_IsUtf8}
-use Rattle.serde_json.specs.Data.{Data, boolean, string, object, Members}
-use Rattle.serde_json.specs.Find.{as_bool}
+use Rattle.serde_json.specs.Data.{Data, object, Members, no_members, member, put}
+use Rattle.serde_json.specs.Find.{get_member}
 use Rattle.serde_json.specs.Read.{read}
-use Rattle.ctrl_model.specs.NameForm.{is_name, is_instance}
-use Rattle.ctrl_model.specs.AddressForm.{address_text, is_address, same_address}
-use Rattle.ctrl_model.specs.InterceptForm.{is_claim, is_intercept, is_port_range, same_ports}
-use Rattle.ctrl_model.specs.CommandForm.{are_attributes, is_side, is_service_relation, is_cost, is_link_cost, is_latency, is_number, is_name_or_none, is_reach, are_numbers, is_destination, is_port, is_spelled}
-use Rattle.ctrl_model.specs.declared.addresses.Address.{Address}
-use Rattle.ctrl_model.specs.declared.claims.Reach.{Reach}
+use Rattle.serde_json.proofs.Views.{get_member-put, get_member-put_other}
 use Rattle.ctrl_model.specs.declared.commands.Command.{Command}
 use Rattle.ctrl_model.specs.declared.commands.Command.TheVariants as command
-use Rattle.ctrl_model.specs.declared.intercepts.Intercept.{Intercept}
-use Rattle.ctrl_model.specs.declared.kinds.Precedence.{Precedence}
-use Rattle.ctrl_model.specs.declared.kinds.Precedence.TheVariants.{Normal}
-use Rattle.ctrl_model.specs.declared.kinds.Relation.{Relation}
-use Rattle.ctrl_model.specs.declared.kinds.Semantic.{Semantic}
-use Rattle.ctrl_model.specs.declared.kinds.Side.{Side}
 use Rattle.ctrl_model.specs.declared.refusals.Field.{Field}
-use Rattle.ctrl_model.specs.declared.refusals.Field.TheVariants as field
-use Rattle.json_body.specs.FieldKinds.{as_name, member_of, has_only}
-use Rattle.command_bodies.specs.WrittenFields.{natural, list_of, potential, two_ports}
-use Rattle.command_codec.specs.BodyMeaning.{meaning}
-use Rattle.command_codec.specs.BodyObjects.{object_of_body}
+use Rattle.ctrl_model.specs.CommandForm.{is_spelled}
+use Rattle.ctrl_model.specs.Matches.{has_name}
+use Rattle.ctrl_model.specs.Words.{word_of}
+use Rattle.ctrl_model.proofs.DistinctLaws.{same_bytes}
+use Rattle.json_body.specs.declared.fields.FieldFault.TheVariants.{WrongKind}
+use Rattle.json_body.specs.FieldKinds.{are_words_of, is_word_of, member_of, required_from, optional_from}
+use Rattle.command_codec.specs.declared.body_kinds.BodyKind.{BodyKind}
+use Rattle.command_codec.specs.declared.body_kinds.BodyKind.TheVariants as body
+use Rattle.command_codec.specs.BodyForms.{BodyField, Form, Values, ◌&◌, fields_in, made_of}
+use Rattle.command_codec.specs.BodyKinds.{Said, as_kind}
+use Rattle.command_codec.specs.BodyMeaning.{said_of, said_in, meaning_under, meaning}
+use Rattle.command_codec.specs.BodyObjects.{object_of_body, said_by, with_cause}
+use Rattle.command_codec.specs.CommandForms.{Row, all_rows, form_under, row_at}
 use Rattle.command_codec.specs.ContentTypes.{content_of}
-use Rattle.command_codec.specs.NameLists.{as_attributes}
-use Rattle.command_codec.specs.RoleLists.{as_side}
-use Rattle.body_fields.specs.FieldValues.{as_no, as_instance, as_some_name}
-use Rattle.body_fields.specs.FieldWords.{as_relation, as_semantic, as_precedence}
-use Rattle.body_fields.specs.InterceptFields.{as_addresses, as_destination, as_port, as_protocol, as_protocols, as_ranges}
-use Rattle.body_fields.specs.RouteClaims.{as_numbers, as_potentials}
-use Rattle.command_codec.specs.EntityBodies.{as_cost, named, made, updated, made_router, updated_router}
-use Rattle.command_codec.specs.PolicyBodies.{service_policy, router_policy}
-use Rattle.command_codec.specs.LinkBodies.{as_link_cost, as_latency, made_link, link_cost, reported_latency, reported_state, least_router_cost}
-use Rattle.command_codec.specs.TerminatorBodies.{numbered, made_terminator, updated_terminator}
-use Rattle.command_codec.specs.CircuitBodies.{asked_circuit, as_total, claimed_route}
-use Rattle.command_codec.specs.ShowBodies.{plain}
-use Rattle.command_codec.specs.InterceptBodies.{set_intercept, pick, list_clashes}
-use Rattle.command_codec.specs.SpelledBodies.{Tells, MayTell}
+use Rattle.command_codec.specs.SpelledBodies.{Tells, TellsEach}
+use Rattle.command_codec.proofs.KindLaws.{AllTrue, RowHolds, all_checks, checks, hold_parts, row_of_all, rows_hold, true_parts}
+use Rattle.command_codec.proofs.SpelledLaws.{said_where}
 use Rattle.command_bodies.specs.BodyTexts.{body_object}
-use Rattle.command_bodies.specs.CommandFields.{name_field, no_field, entity_fields, router_fields, service_policy_fields, router_policy_fields, link_fields, terminator_fields, asked_fields, intercept_fields}
-use Rattle.command_bodies.specs.RoleEntries.{role_texts}
-use Rattle.command_bodies.specs.WrittenFields.{object_with}
-use Rattle.command_bodies.specs.WrittenWords.{relation_word, semantic_word, precedence_word, protocol_word, protocol_words}
-use Rattle.command_bodies.proofs.WrittenKinds.{name_read, instance_read, some_name_read, number_read, from_zero, relation_read, semantic_read, precedence_read, attributes_read}
+use Rattle.command_bodies.specs.CommandFields.{written, each_written, with_given, given_fields, values_of}
+use Rattle.command_bodies.specs.WrittenFields.{Given, data_of, with_field, with_fields, object_with}
+use Rattle.command_bodies.proofs.WrittenKinds.{name_read, instance_read, some_name_read, number_read, relation_read, semantic_read, precedence_read, attributes_read}
 use Rattle.command_bodies.proofs.WrittenSides.{side_read}
 use Rattle.command_bodies.proofs.WrittenClaims.{numbers_read, potentials_read}
 use Rattle.command_bodies.proofs.WrittenIntercepts.{protocol_read, protocols_read, addresses_read, destination_read, ranges_read}
-use Rattle.command_bodies.proofs.ReadShapes as shape
-use Rattle.command_bodies.proofs.ReadShapes.{tells, may_tell, left_out, by_reader}
 
 -- A text that is read as an object is a body of it.
 pub body_of_text : (text : List ℕ) (ms : Members) → IsUtf8 text → read text ≡ Some (object ms) → object_of_body text ≡ Some (object ms)
 body_of_text text ms form is = rw (is_utf8-from_IsUtf8 text form, is) refl
 
--- ---- the fields that are written
+-- ---- what is written of a value is read as it
 
--- A name, an instance and a number in a field.
-a_name : (of_field : Field) (o : Data) (name : List ℕ) → member_of of_field o ≡ Some (string name) → is_name name ≡ true → Tells as_name of_field name o
-a_name of_field o name there h = tells as_name of_field o (string name) name there (name_read name h)
+-- What is written of a value, if anything, is of its kind and says it.
+abbrev ReadsAs : (k : BodyKind) → Said k → Option Given → Type 0
+ReadsAs k x None = ⊤
+ReadsAs k x (Some g) = as_kind k (data_of g) ≡ Some x
 
-an_instance : (o : Data) (instance : List ℕ) → member_of field.Instance o ≡ Some (string instance) → is_instance instance ≡ true → MayTell as_instance [] field.Instance instance o
-an_instance o instance there h = may_tell as_instance [] field.Instance o (string instance) instance there (instance_read instance h)
+kind_read : (k : BodyKind) (x : Said k) → AllTrue (checks k x) → ReadsAs k x (written k x)
+kind_read body.Name name h = name_read name h.0
+kind_read body.NameOrNone None h = tt
+kind_read body.NameOrNone (Some name) h = some_name_read name h.0
+kind_read body.Attributes names h = attributes_read names h.0
+kind_read body.Side side h = side_read side h.0
+kind_read (body.Number low high) n h = number_read low high n h.0
+kind_read body.Flag b h = refl
+kind_read body.Relation relation h = relation_read relation h.0
+kind_read body.Semantic semantic h = semantic_read semantic
+kind_read body.Precedence precedence h = precedence_read precedence
+kind_read body.Instance instance h = instance_read instance h.0
+kind_read (body.Numbers most) ns h = numbers_read most ns h.0
+kind_read body.Potentials es h = potentials_read es h.0 h.1.0
+kind_read body.Protocol udp h = protocol_read udp
+kind_read body.Protocols p h = protocols_read p.tcp p.udp h.0
+kind_read body.Destination address h = destination_read address h.0
+kind_read body.Addresses addresses h = addresses_read addresses h.0
+kind_read body.Ranges ranges h = ranges_read ranges h.0
 
-a_side : (of_field : Field) (o : Data) (side : Side) → member_of of_field o ≡ Some (list_of (λ t. string t) (role_texts side)) → is_side side ≡ true → Tells as_side of_field side o
-a_side of_field o side there h = tells as_side of_field o (list_of (λ t. string t) (role_texts side)) side there (side_read side h)
+-- Where a kind may have nothing written, a field has that value where it is left out.
+abbrev is_left : (k : BodyKind) → Option (Said k) → Bool
+is_left body.NameOrNone None = false
+is_left body.NameOrNone (Some None) = true
+is_left body.NameOrNone (Some (Some name)) = false
+is_left _ w = true
 
-a_no : (of_field : Field) (o : Data) (n : ℕ) → member_of of_field o ≡ Some (natural n) → is_number n ≡ true → Tells as_no of_field n o
-a_no of_field o n there h = tells as_no of_field o (natural n) n there (number_read 1 4294967295 n h)
+left_out : (k : BodyKind) (w : Option (Said k)) (x : Said k) → is_left k w ≡ true → written k x ≡ None → w ≡ Some x
+left_out body.NameOrNone None x left none = absurd (false≢true left)
+left_out body.NameOrNone (Some (Some name)) x left none = absurd (false≢true left)
+left_out body.NameOrNone (Some None) None left none = refl
+left_out body.NameOrNone (Some None) (Some name) left none = absurd (cc)
+left_out body.Name w x left none = absurd (cc)
+left_out body.Attributes w x left none = absurd (cc)
+left_out body.Side w x left none = absurd (cc)
+left_out (body.Number low high) w x left none = absurd (cc)
+left_out body.Flag w x left none = absurd (cc)
+left_out body.Relation w x left none = absurd (cc)
+left_out body.Semantic w x left none = absurd (cc)
+left_out body.Precedence w x left none = absurd (cc)
+left_out body.Instance w x left none = absurd (cc)
+left_out (body.Numbers most) w x left none = absurd (cc)
+left_out body.Potentials w x left none = absurd (cc)
+left_out body.Protocol w x left none = absurd (cc)
+left_out body.Protocols w x left none = absurd (cc)
+left_out body.Destination w x left none = absurd (cc)
+left_out body.Addresses w x left none = absurd (cc)
+left_out body.Ranges w x left none = absurd (cc)
 
--- ---- the objects that are written
+-- What an object says of a field, by the member that it has there.
+told : (k : BodyKind) (w : Option (Said k)) (of_field : Field) (o d : Data) (x : Said k) → member_of of_field o ≡ Some d → as_kind k d ≡ Some x → said_of k w of_field o ≡ Ok x
+told k None of_field o d x there is = ap (required_from of_field (as_kind k)) there ∙ ap (λ q. ok_or q (WrongKind of_field)) is
+told k (Some y) of_field o d x there is = ap (optional_from of_field (as_kind k) y) there ∙ ap (λ q. ok_or q (WrongKind of_field)) is
 
-name_back : (of_field : Field) (make : List ℕ → Command) (name : List ℕ) → member_of of_field (object_with (name_field of_field name)) ≡ Some (string name)
-    → has_only (of_field ∷ []) (object_with (name_field of_field name)) ≡ true → is_name name ≡ true → named of_field make (object_with (name_field of_field name)) ≡ Ok (make name)
-name_back of_field make name there only h =
-    let o = object_with (name_field of_field name) in shape.named_says of_field make o name (a_name of_field o name there h) only
+not_told : (k : BodyKind) (w : Option (Said k)) (of_field : Field) (o : Data) (x : Said k) → w ≡ Some x → member_of of_field o ≡ None → said_of k w of_field o ≡ Ok x
+not_told k None of_field o x same absent = absurd (cc)
+not_told k (Some y) of_field o x same absent = ap (optional_from of_field (as_kind k) y) absent ∙ ap (λ z. Ok z) (same_Some y x same)
 
-no_back : (make : ℕ → Command) (n : ℕ) → is_number n ≡ true → numbered make (object_with (no_field n)) ≡ Ok (make n)
-no_back make n h = let o = object_with (no_field n) in shape.numbered_says make o n (a_no field.No o n refl h) refl
+-- ---- the members of the object
 
-made_back : (make : List ℕ → List (List ℕ) → Command) (name : List ℕ) (attributes : List (List ℕ)) → (is_name name && are_attributes attributes) ≡ true
-    → made make (object_with (entity_fields name attributes)) ≡ Ok (make name attributes)
-made_back make name attributes h =
-    let p = and_parts (is_name name) (are_attributes attributes) h in
-    let o = object_with (entity_fields name attributes) in
-    shape.made_says make o name attributes (a_name field.Name o name refl p.0)
-    (may_tell as_attributes [] field.Attributes o (list_of (λ t. string t) attributes) attributes refl (attributes_read attributes p.1)) refl
+-- The words of some fields.
+abbrev words : Form → List (List ℕ)
+words form = map (λ f. word_of f.of_field) form
 
-updated_back : (make : List ℕ → List (List ℕ) → Command) (name : List ℕ) (attributes : List (List ℕ)) → (is_name name && are_attributes attributes) ≡ true
-    → updated make (object_with (entity_fields name attributes)) ≡ Ok (make name attributes)
-updated_back make name attributes h =
-    let p = and_parts (is_name name) (are_attributes attributes) h in
-    let o = object_with (entity_fields name attributes) in
-    shape.updated_says make o name attributes (a_name field.Name o name refl p.0)
-    (tells as_attributes field.Attributes o (list_of (λ t. string t) attributes) attributes refl (attributes_read attributes p.1)) refl
-
-made_router_back : (name : List ℕ) (attributes : List (List ℕ)) (cost : ℕ) (no_traversal : Bool) → (is_name name && (are_attributes attributes && is_cost cost)) ≡ true
-    → made_router (object_with (router_fields name attributes cost no_traversal)) ≡ Ok (command.CreateRouter name attributes cost no_traversal)
-made_router_back name attributes cost no_traversal h =
-    let p = and_parts (is_name name) (are_attributes attributes && is_cost cost) h in
-    let q = and_parts (are_attributes attributes) (is_cost cost) p.1 in
-    let o = object_with (router_fields name attributes cost no_traversal) in
-    shape.made_router_says o name attributes cost no_traversal (a_name field.Name o name refl p.0)
-    (may_tell as_attributes [] field.Attributes o (list_of (λ t. string t) attributes) attributes refl (attributes_read attributes q.0))
-    (may_tell as_cost 0 field.Cost o (natural cost) cost refl (number_read 0 65535 cost q.1))
-    (may_tell as_bool false field.NoTraversal o (boolean no_traversal) no_traversal refl refl) refl
-
-updated_router_back : (name : List ℕ) (attributes : List (List ℕ)) (cost : ℕ) (no_traversal : Bool) → (is_name name && (are_attributes attributes && is_cost cost)) ≡ true
-    → updated_router (object_with (router_fields name attributes cost no_traversal)) ≡ Ok (command.UpdateRouter name attributes cost no_traversal)
-updated_router_back name attributes cost no_traversal h =
-    let p = and_parts (is_name name) (are_attributes attributes && is_cost cost) h in
-    let q = and_parts (are_attributes attributes) (is_cost cost) p.1 in
-    let o = object_with (router_fields name attributes cost no_traversal) in
-    shape.updated_router_says o name attributes cost no_traversal (a_name field.Name o name refl p.0)
-    (tells as_attributes field.Attributes o (list_of (λ t. string t) attributes) attributes refl (attributes_read attributes q.0))
-    (tells as_cost field.Cost o (natural cost) cost refl (number_read 0 65535 cost q.1))
-    (tells as_bool field.NoTraversal o (boolean no_traversal) no_traversal refl refl) refl
-
-service_policy_back : (make : List ℕ → Relation → Semantic → Side → Side → Command) (name : List ℕ) (relation : Relation) (semantic : Semantic) (left right : Side)
-    → (is_name name && (is_service_relation relation && (is_side left && is_side right))) ≡ true
-    → service_policy make (object_with (service_policy_fields name relation semantic left right)) ≡ Ok (make name relation semantic left right)
-service_policy_back make name relation semantic left right h =
-    let p = and_parts (is_name name) (is_service_relation relation && (is_side left && is_side right)) h in
-    let q = and_parts (is_service_relation relation) (is_side left && is_side right) p.1 in
-    let r = and_parts (is_side left) (is_side right) q.1 in
-    let o = object_with (service_policy_fields name relation semantic left right) in
-    shape.service_policy_says make o name relation semantic left right (a_name field.Name o name refl p.0)
-    (tells as_relation field.PolicyType o (string (relation_word relation)) relation refl (relation_read relation q.0))
-    (tells as_semantic field.Semantic o (string (semantic_word semantic)) semantic refl (semantic_read semantic))
-    (a_side field.IdentityRoles o left refl r.0) (a_side field.ServiceRoles o right refl r.1) refl
-
-router_policy_back : (of_left : Field) (make : List ℕ → Semantic → Side → Side → Command) (name : List ℕ) (semantic : Semantic) (left right : Side) (o : Data)
-    → member_of field.Name o ≡ Some (string name) → member_of field.Semantic o ≡ Some (string (semantic_word semantic))
-    → member_of of_left o ≡ Some (list_of (λ t. string t) (role_texts left)) → member_of field.RouterRoles o ≡ Some (list_of (λ t. string t) (role_texts right))
-    → has_only (field.Name ∷ field.Semantic ∷ of_left ∷ field.RouterRoles ∷ []) o ≡ true
-    → (is_name name && (is_side left && is_side right)) ≡ true → router_policy of_left make o ≡ Ok (make name semantic left right)
-router_policy_back of_left make name semantic left right o n s l r only h =
-    let p = and_parts (is_name name) (is_side left && is_side right) h in
-    let q = and_parts (is_side left) (is_side right) p.1 in
-    shape.router_policy_says of_left make o name semantic left right (a_name field.Name o name n p.0)
-    (tells as_semantic field.Semantic o (string (semantic_word semantic)) semantic s (semantic_read semantic))
-    (a_side of_left o left l q.0) (a_side field.RouterRoles o right r q.1) only
-
-link_back : (name a b : List ℕ) (cost latency_a latency_b : ℕ) → is_spelled (command.CreateLink name a b cost latency_a latency_b) ≡ true
-    → made_link (object_with (link_fields name a b cost latency_a latency_b)) ≡ Ok (command.CreateLink name a b cost latency_a latency_b)
-link_back name a b cost latency_a latency_b h =
-    let p = and_parts (is_name name) (is_name a && (is_name b && (is_link_cost cost && (is_latency latency_a && is_latency latency_b)))) h in
-    let q = and_parts (is_name a) (is_name b && (is_link_cost cost && (is_latency latency_a && is_latency latency_b))) p.1 in
-    let r = and_parts (is_name b) (is_link_cost cost && (is_latency latency_a && is_latency latency_b)) q.1 in
-    let s = and_parts (is_link_cost cost) (is_latency latency_a && is_latency latency_b) r.1 in
-    let t = and_parts (is_latency latency_a) (is_latency latency_b) s.1 in
-    let o = object_with (link_fields name a b cost latency_a latency_b) in
-    shape.made_link_says o name a b cost latency_a latency_b (a_name field.Name o name refl p.0) (a_name field.A o a refl q.0) (a_name field.B o b refl r.0)
-    (may_tell as_link_cost 1 field.Cost o (natural cost) cost refl (number_read 1 65535 cost s.0))
-    (may_tell as_latency 0 field.LatencyA o (natural latency_a) latency_a refl (number_read 0 60000 latency_a t.0))
-    (may_tell as_latency 0 field.LatencyB o (natural latency_b) latency_b refl (number_read 0 60000 latency_b t.1)) refl
-
-link_cost_back : (link : List ℕ) (cost : ℕ) → is_spelled (command.SetLinkCost link cost) ≡ true → link_cost (body_object (command.SetLinkCost link cost)) ≡ Ok (command.SetLinkCost link cost)
-link_cost_back link cost h =
-    let p = and_parts (is_name link) (is_link_cost cost) h in
-    let o = body_object (command.SetLinkCost link cost) in
-    shape.link_cost_says o link cost (a_name field.Link o link refl p.0) (tells as_link_cost field.Cost o (natural cost) cost refl (number_read 1 65535 cost p.1)) refl
-
-latency_back : (link router : List ℕ) (latency : ℕ) → is_spelled (command.ReportLatency link router latency) ≡ true
-    → reported_latency (body_object (command.ReportLatency link router latency)) ≡ Ok (command.ReportLatency link router latency)
-latency_back link router latency h =
-    let p = and_parts (is_name link) (is_name router && is_latency latency) h in
-    let q = and_parts (is_name router) (is_latency latency) p.1 in
-    let o = body_object (command.ReportLatency link router latency) in
-    shape.latency_says o link router latency (a_name field.Link o link refl p.0) (a_name field.Router o router refl q.0)
-    (tells as_latency field.Latency o (natural latency) latency refl (number_read 0 60000 latency q.1)) refl
-
-state_back : (link router : List ℕ) (up : Bool) → is_spelled (command.ReportState link router up) ≡ true
-    → reported_state (body_object (command.ReportState link router up)) ≡ Ok (command.ReportState link router up)
-state_back link router up h =
-    let p = and_parts (is_name link) (is_name router) h in
-    let o = body_object (command.ReportState link router up) in
-    shape.state_says o link router up (a_name field.Link o link refl p.0) (a_name field.Router o router refl p.1) (tells as_bool field.Up o (boolean up) up refl refl) refl
-
-least_back : (cost : ℕ) → is_link_cost cost ≡ true → least_router_cost (body_object (command.SetLeastRouterCost cost)) ≡ Ok (command.SetLeastRouterCost cost)
-least_back cost h =
-    let o = body_object (command.SetLeastRouterCost cost) in
-    shape.least_says o cost (tells as_link_cost field.Cost o (natural cost) cost refl (number_read 1 65535 cost h)) refl
-
--- By whether there is a host.
-terminator_back : (service router instance : List ℕ) (host : Option (List ℕ)) (cost : ℕ) (precedence : Precedence)
-    → is_spelled (command.CreateTerminator service router instance host cost precedence) ≡ true
-    → made_terminator (object_with (terminator_fields service router instance host cost precedence)) ≡ Ok (command.CreateTerminator service router instance host cost precedence)
-terminator_back service router instance host cost precedence h =
-    let p = and_parts (is_name service) (is_name router && (is_instance instance && (is_name_or_none host && is_cost cost))) h in
-    let q = and_parts (is_name router) (is_instance instance && (is_name_or_none host && is_cost cost)) p.1 in
-    let r = and_parts (is_instance instance) (is_name_or_none host && is_cost cost) q.1 in
-    let s = and_parts (is_name_or_none host) (is_cost cost) r.1 in
-    by host p.0 q.0 r.0 s.0 s.1
+-- A word that is none of some.
+apart : (w v : List ℕ) (vs : List (List ℕ)) → has_name (v ∷ vs) w ≡ false → (w ≡ v → ⊥) × (has_name vs w ≡ false)
+apart w v vs h = by (bytes_eq v w) refl h
   where
-    by : (host : Option (List ℕ)) → is_name service ≡ true → is_name router ≡ true → is_instance instance ≡ true → is_name_or_none host ≡ true → is_cost cost ≡ true
-        → made_terminator (object_with (terminator_fields service router instance host cost precedence)) ≡ Ok (command.CreateTerminator service router instance host cost precedence)
-    by None a b i n c =
-        let o = object_with (terminator_fields service router instance None cost precedence) in
-        shape.made_terminator_says o service router instance None cost precedence (a_name field.Service o service refl a) (a_name field.Router o router refl b) (an_instance o instance refl i)
-        (left_out as_some_name None field.Host o refl)
-        (may_tell as_cost 0 field.Cost o (natural cost) cost refl (number_read 0 65535 cost c))
-        (may_tell as_precedence Normal field.Precedence o (string (precedence_word precedence)) precedence refl (precedence_read precedence)) refl
-    by (Some name) a b i n c =
-        let o = object_with (terminator_fields service router instance (Some name) cost precedence) in
-        shape.made_terminator_says o service router instance (Some name) cost precedence (a_name field.Service o service refl a) (a_name field.Router o router refl b) (an_instance o instance refl i)
-        (may_tell as_some_name None field.Host o (string name) (Some name) refl (some_name_read name n))
-        (may_tell as_cost 0 field.Cost o (natural cost) cost refl (number_read 0 65535 cost c))
-        (may_tell as_precedence Normal field.Precedence o (string (precedence_word precedence)) precedence refl (precedence_read precedence)) refl
+    by : (b : Bool) → bytes_eq v w ≡ b → (b || has_name vs w) ≡ false → (w ≡ v → ⊥) × (has_name vs w ≡ false)
+    by true is h = absurd (cc)
+    by false is h = (λ same. absurd (false≢true (sym is ∙ same_bytes v w (sym same))), h)
 
-updated_terminator_back : (n cost : ℕ) (precedence : Precedence) → (is_number n && is_cost cost) ≡ true
-    → updated_terminator (body_object (command.UpdateTerminator n cost precedence)) ≡ Ok (command.UpdateTerminator n cost precedence)
-updated_terminator_back n cost precedence h =
-    let p = and_parts (is_number n) (is_cost cost) h in
-    let o = body_object (command.UpdateTerminator n cost precedence) in
-    shape.updated_terminator_says o n cost precedence (a_no field.No o n refl p.0) (tells as_cost field.Cost o (natural cost) cost refl (number_read 0 65535 cost p.1))
-    (tells as_precedence field.Precedence o (string (precedence_word precedence)) precedence refl (precedence_read precedence)) refl
+-- The fields of a form, put beside other members.
+abbrev all_put : (form : Form) → Values form → Members → Members
+all_put form xs ms = with_fields (given_fields (fields_in form) (each_written form xs)) ms
 
--- By whether there is an ingress.
-asked_back : (make : List ℕ → List ℕ → Option (List ℕ) → List ℕ → Command) (identity service : List ℕ) (ingress : Option (List ℕ)) (instance : List ℕ)
-    → (is_name identity && (is_name service && (is_name_or_none ingress && is_instance instance))) ≡ true
-    → asked_circuit make (object_with (asked_fields identity service ingress instance)) ≡ Ok (make identity service ingress instance)
-asked_back make identity service ingress instance h =
-    let p = and_parts (is_name identity) (is_name service && (is_name_or_none ingress && is_instance instance)) h in
-    let q = and_parts (is_name service) (is_name_or_none ingress && is_instance instance) p.1 in
-    let r = and_parts (is_name_or_none ingress) (is_instance instance) q.1 in
-    by ingress p.0 q.0 r.0 r.1
+-- The members behind one field.
+abbrev one_put : Field → Option Given → Members → Members
+one_put of_field None ms = ms
+one_put of_field (Some g) ms = with_field (of_field, g) ms
+
+one_more : (f : BodyField) (fs : Form) (xs : Values (f ∷ fs)) (ms : Members) → all_put (f ∷ fs) xs ms ≡ all_put fs xs.1 (one_put f.of_field (written f.kind xs.0) ms)
+one_more f fs xs ms = by (written f.kind xs.0)
   where
-    by : (ingress : Option (List ℕ)) → is_name identity ≡ true → is_name service ≡ true → is_name_or_none ingress ≡ true → is_instance instance ≡ true
-        → asked_circuit make (object_with (asked_fields identity service ingress instance)) ≡ Ok (make identity service ingress instance)
-    by None a b n i =
-        let o = object_with (asked_fields identity service None instance) in
-        shape.asked_says make o identity service None instance (a_name field.Identity o identity refl a) (a_name field.Service o service refl b)
-        (left_out as_some_name None field.Ingress o refl) (an_instance o instance refl i) refl
-    by (Some name) a b n i =
-        let o = object_with (asked_fields identity service (Some name) instance) in
-        shape.asked_says make o identity service (Some name) instance (a_name field.Identity o identity refl a) (a_name field.Service o service refl b)
-        (may_tell as_some_name None field.Ingress o (string name) (Some name) refl (some_name_read name n)) (an_instance o instance refl i) refl
+    by : (w : Option Given) → with_fields (with_given f.of_field w (given_fields (fields_in fs) (each_written fs xs.1))) ms ≡ all_put fs xs.1 (one_put f.of_field w ms)
+    by None = refl
+    by (Some g) = refl
 
--- What is claimed of a route, in the form that is read.
-record IsClaim (chosen links : List ℕ) (potentials : List Reach) (routers : List ℕ) (terminator total : ℕ) : Type 0 where
-  chosen_form : is_name chosen ≡ true
-  links_form : are_numbers 255 links ≡ true
-  few : nat_le (length potentials) 256 ≡ true
-  each : list_all is_reach potentials ≡ true
-  routers_form : are_numbers 256 routers ≡ true
-  terminator_form : is_number terminator ≡ true
-  total_form : nat_le total 4294967295 ≡ true
+one_put-other : (q : List ℕ) (of_field : Field) (w : Option Given) (ms : Members) → (q ≡ word_of of_field → ⊥) → get_member q (one_put of_field w ms) ≡ get_member q ms
+one_put-other q of_field None ms other = refl
+one_put-other q of_field (Some g) ms other = get_member-put_other q (word_of of_field) (data_of g) ms other
 
-claimed_back : (identity service : List ℕ) (ingress : Option (List ℕ)) (instance chosen links : List ℕ) (potentials : List Reach) (routers : List ℕ) (terminator total : ℕ)
-    → is_spelled (command.VerifyRoute identity service ingress instance chosen links potentials routers terminator total) ≡ true
-    → claimed_route (body_object (command.VerifyRoute identity service ingress instance chosen links potentials routers terminator total))
-    ≡ Ok (command.VerifyRoute identity service ingress instance chosen links potentials routers terminator total)
-claimed_back identity service ingress instance chosen links potentials routers terminator total h =
-    let numbers = are_numbers 256 routers && (is_number terminator && nat_le total 4294967295) in
-    let behind = are_numbers 255 links && (nat_le (length potentials) 256 && (list_all is_reach potentials && numbers)) in
-    let a = and_parts (is_name identity) (is_name service && (is_name_or_none ingress && (is_instance instance && (is_name chosen && behind)))) h in
-    let b = and_parts (is_name service) (is_name_or_none ingress && (is_instance instance && (is_name chosen && behind))) a.1 in
-    let c = and_parts (is_name_or_none ingress) (is_instance instance && (is_name chosen && behind)) b.1 in
-    let d = and_parts (is_instance instance) (is_name chosen && behind) c.1 in
-    let e = and_parts (is_name chosen) behind d.1 in
-    let f = and_parts (are_numbers 255 links) (nat_le (length potentials) 256 && (list_all is_reach potentials && numbers)) e.1 in
-    let g = and_parts (nat_le (length potentials) 256) (list_all is_reach potentials && numbers) f.1 in
-    let i = and_parts (list_all is_reach potentials) numbers g.1 in
-    let j = and_parts (are_numbers 256 routers) (is_number terminator && nat_le total 4294967295) i.1 in
-    let k = and_parts (is_number terminator) (nat_le total 4294967295) j.1 in
-    by ingress a.0 b.0 c.0 d.0 (record { chosen_form = e.0; links_form = f.0; few = g.0; each = i.0; routers_form = j.0; terminator_form = k.0; total_form = k.1 })
+-- A word that is none of the form has what it had.
+all_put-other : (q : List ℕ) (form : Form) (xs : Values form) (ms : Members) → has_name (words form) q ≡ false → get_member q (all_put form xs ms) ≡ get_member q ms
+all_put-other q [] xs ms other = refl
+all_put-other q (f ∷ fs) xs ms other =
+    let p = apart q (word_of f.of_field) (words fs) other in
+    ap (get_member q) (one_more f fs xs ms) ∙ all_put-other q fs xs.1 (one_put f.of_field (written f.kind xs.0) ms) p.1
+    ∙ one_put-other q f.of_field (written f.kind xs.0) ms p.0
+
+-- None of the words of a form is there.
+abbrev AreAbsent : Form → Members → Type 0
+AreAbsent form ms = AllByRecursion (λ (f : BodyField). get_member (word_of f.of_field) ms ≡ None) form
+
+still_absent : (of_field : Field) (w : Option Given) (fs : Form) (ms : Members) → not (has_name (words fs) (word_of of_field)) ≡ true → AreAbsent fs ms → AreAbsent fs (one_put of_field w ms)
+still_absent of_field w [] ms other absent = tt
+still_absent of_field w (f ∷ fs) ms other absent = by (bytes_eq (word_of f.of_field) (word_of of_field)) refl other (λ rest. still_absent of_field w fs ms rest absent.1)
   where
-    -- The object, by whether there is an ingress, with what it says of the ingress.
-    says : (ingress : Option (List ℕ)) (o : Data) → MayTell as_some_name None field.Ingress ingress o
-        → member_of field.Identity o ≡ Some (string identity) → member_of field.Service o ≡ Some (string service) → member_of field.Instance o ≡ Some (string instance)
-        → member_of field.Chosen o ≡ Some (string chosen) → member_of field.Links o ≡ Some (list_of natural links) → member_of field.Potentials o ≡ Some (list_of potential potentials)
-        → member_of field.Routers o ≡ Some (list_of natural routers) → member_of field.Terminator o ≡ Some (natural terminator) → member_of field.Total o ≡ Some (natural total)
-        → has_only (field.Identity ∷ field.Service ∷ field.Ingress ∷ field.Instance ∷ field.Chosen ∷ field.Links ∷ field.Potentials ∷ field.Routers ∷ field.Terminator ∷ field.Total ∷ []) o ≡ true
-        → is_name identity ≡ true → is_name service ≡ true → is_instance instance ≡ true → IsClaim chosen links potentials routers terminator total
-        → claimed_route o ≡ Ok (command.VerifyRoute identity service ingress instance chosen links potentials routers terminator total)
-    says ingress o into i s n c l p r t u only a b d claim =
-        shape.claimed_says o identity service ingress instance chosen links potentials routers terminator total
-        (a_name field.Identity o identity i a) (a_name field.Service o service s b) into (an_instance o instance n d) (a_name field.Chosen o chosen c claim.chosen_form)
-        (tells (as_numbers 255) field.Links o (list_of natural links) links l (numbers_read 255 links claim.links_form))
-        (tells as_potentials field.Potentials o (list_of potential potentials) potentials p (potentials_read potentials claim.few claim.each))
-        (tells (as_numbers 256) field.Routers o (list_of natural routers) routers r (numbers_read 256 routers claim.routers_form))
-        (a_no field.Terminator o terminator t claim.terminator_form)
-        (tells as_total field.Total o (natural total) total u (number_read 0 4294967295 total (from_zero 4294967295 total claim.total_form))) only
+    by : (b : Bool) → bytes_eq (word_of f.of_field) (word_of of_field) ≡ b → not (b || has_name (words fs) (word_of of_field)) ≡ true
+        → (not (has_name (words fs) (word_of of_field)) ≡ true → AreAbsent fs (one_put of_field w ms)) → AreAbsent (f ∷ fs) (one_put of_field w ms)
+    by true is other more = absurd (false≢true other)
+    by false is other more =
+        let one : word_of f.of_field ≡ word_of of_field → ⊥ = λ same. false≢true (sym is ∙ same_bytes (word_of f.of_field) (word_of of_field) same) in
+        (one_put-other (word_of f.of_field) of_field w ms one ∙ absent.0) & more other
 
-    by : (ingress : Option (List ℕ)) → is_name identity ≡ true → is_name service ≡ true → is_name_or_none ingress ≡ true → is_instance instance ≡ true
-        → IsClaim chosen links potentials routers terminator total
-        → claimed_route (body_object (command.VerifyRoute identity service ingress instance chosen links potentials routers terminator total))
-        ≡ Ok (command.VerifyRoute identity service ingress instance chosen links potentials routers terminator total)
-    by None a b n d claim =
-        let o = body_object (command.VerifyRoute identity service None instance chosen links potentials routers terminator total) in
-        says None o (left_out as_some_name None field.Ingress o refl) refl refl refl refl refl refl refl refl refl refl a b d claim
-    by (Some name) a b n d claim =
-        let o = body_object (command.VerifyRoute identity service (Some name) instance chosen links potentials routers terminator total) in
-        says (Some name) o (may_tell as_some_name None field.Ingress o (string name) (Some name) refl (some_name_read name n)) refl refl refl refl refl refl refl refl refl refl a b d claim
+-- What a form asks for its body to be read back: no word stands twice, and a value of which nothing is written is the one of a field
+-- that is left out.
+abbrev is_readable : Form → Bool
+is_readable [] = true
+is_readable (f ∷ fs) = (not (has_name (words fs) (word_of f.of_field)) && is_left f.kind f.otherwise) && is_readable fs
 
--- ---- intercepts
+not_true : (b : Bool) → not b ≡ true → b ≡ false
+not_true true h = absurd (false≢true h)
+not_true false h = refl
 
-intercept_back : (service : List ℕ) (i : Intercept) → is_spelled (command.SetIntercept service i) ≡ true → set_intercept (object_with (intercept_fields service i)) ≡ Ok (command.SetIntercept service i)
-intercept_back service i h =
-    let p = and_parts (is_name service) (is_intercept i) h in
-    let q = and_parts (i.tcp || i.udp) (is_claim is_address same_address i.addresses && is_claim is_port_range same_ports i.ports) p.1 in
-    let r = and_parts (is_claim is_address same_address i.addresses) (is_claim is_port_range same_ports i.ports) q.1 in
-    let o = object_with (intercept_fields service i) in
-    shape.set_intercept_says o service i (a_name field.Service o service refl p.0)
-    (tells as_protocols field.Protocols o (list_of (λ t. string t) (protocol_words i.tcp i.udp)) (record { tcp = i.tcp; udp = i.udp }) refl (protocols_read i.tcp i.udp q.0))
-    (tells as_addresses field.Addresses o (list_of (λ t. string t) (map address_text i.addresses)) i.addresses refl (addresses_read i.addresses r.0))
-    (tells as_ranges field.Ports o (list_of two_ports i.ports) i.ports refl (ranges_read i.ports r.1)) refl
+-- The object gives each of the values that are written.
+each_told : (form : Form) (xs : Values form) (ms : Members) → is_readable form ≡ true → AllTrue (all_checks form xs) → AreAbsent form ms → TellsEach form xs (object (all_put form xs ms))
+each_told [] xs ms readable holds absent = tt
+each_told (f ∷ fs) xs ms readable holds absent =
+    let p = and_parts (not (has_name (words fs) (word_of f.of_field)) && is_left f.kind f.otherwise) (is_readable fs) readable in
+    let q = and_parts (not (has_name (words fs) (word_of f.of_field))) (is_left f.kind f.otherwise) p.0 in
+    let h = true_parts (checks f.kind xs.0) (all_checks fs xs.1) holds in
+    let there = all_put-other (word_of f.of_field) fs xs.1 (one_put f.of_field (written f.kind xs.0) ms) (not_true (has_name (words fs) (word_of f.of_field)) q.0) in
+    subst (λ ns. TellsEach (f ∷ fs) xs (object ns)) (sym (one_more f fs xs ms))
+    (first (written f.kind xs.0) refl (kind_read f.kind xs.0 h.0) q.1 there
+    & each_told fs xs.1 (one_put f.of_field (written f.kind xs.0) ms) p.1 h.1 (still_absent f.of_field (written f.kind xs.0) fs ms q.0 absent.1))
+  where
+    first : (w : Option Given) → written f.kind xs.0 ≡ w → ReadsAs f.kind xs.0 w → is_left f.kind f.otherwise ≡ true
+        → get_member (word_of f.of_field) (all_put fs xs.1 (one_put f.of_field w ms)) ≡ get_member (word_of f.of_field) (one_put f.of_field w ms)
+        → Tells f xs.0 (object (all_put fs xs.1 (one_put f.of_field w ms)))
+    first None is reads left there =
+        not_told f.kind f.otherwise f.of_field (object (all_put fs xs.1 ms)) xs.0 (left_out f.kind f.otherwise xs.0 left is) (there ∙ absent.0)
+    first (Some g) is reads left there =
+        told f.kind f.otherwise f.of_field (object (all_put fs xs.1 (with_field (f.of_field, g) ms))) (data_of g) xs.0
+        (there ∙ get_member-put (word_of f.of_field) (data_of g) ms) reads
 
-pick_back : (identity : List ℕ) (udp : Bool) (address : Address) (port : ℕ) → is_spelled (command.Pick identity udp address port) ≡ true
-    → pick (body_object (command.Pick identity udp address port)) ≡ Ok (command.Pick identity udp address port)
-pick_back identity udp address port h =
-    let p = and_parts (is_name identity) (is_destination address && is_port port) h in
-    let q = and_parts (is_destination address) (is_port port) p.1 in
-    let o = body_object (command.Pick identity udp address port) in
-    shape.pick_says o identity udp address port (a_name field.Identity o identity refl p.0)
-    (tells as_protocol field.Protocol o (string (protocol_word udp)) udp refl (protocol_read udp))
-    (tells as_destination field.Address o (string (address_text address)) address refl (destination_read address q.0))
-    (tells as_port field.Port o (natural port) port refl (number_read 1 65535 port q.1)) refl
+-- ---- no other keys
 
-clashes_back : (identity service : List ℕ) → is_spelled (command.ListClashes identity service) ≡ true
-    → list_clashes (body_object (command.ListClashes identity service)) ≡ Ok (command.ListClashes identity service)
-clashes_back identity service h =
-    let p = and_parts (is_name identity) (is_name service) h in
-    let o = body_object (command.ListClashes identity service) in
-    shape.list_clashes_says o identity service (a_name field.Identity o identity refl p.0) (a_name field.Service o service refl p.1) refl
+put_words : (fields : List Field) (k : List ℕ) (d : Data) (ms : Members) → is_word_of fields k ≡ true → are_words_of fields ms ≡ true → are_words_of fields (put k d ms) ≡ true
+put_words fields k d no_members known are = and_from (is_word_of fields k) true known refl
+put_words fields k d (member l e ms) known are =
+    by (slice_cmp nat_cmp k l) (and_parts (is_word_of fields l) (are_words_of fields ms) are) (put_words fields k d ms known)
+  where
+    by : (o : Ordering) → (is_word_of fields l ≡ true) × (are_words_of fields ms ≡ true) → (are_words_of fields ms ≡ true → are_words_of fields (put k d ms) ≡ true)
+        → are_words_of fields (match_ordering o (member k d (member l e ms)) (member l d ms) (member l e (put k d ms))) ≡ true
+    by Less p more = and_from (is_word_of fields k) (is_word_of fields l && are_words_of fields ms) known are
+    by Equal p more = are
+    by Greater p more = and_from (is_word_of fields l) (are_words_of fields (put k d ms)) p.0 (more p.1)
 
--- ---- every command
+-- The words of some fields are those of others.
+abbrev are_known : List Field → List Field → Bool
+are_known fields fs = list_all (λ f. is_word_of fields (word_of f)) fs
 
--- The content type of every command but Hello is another than 0.
+all_words : (fields fs : List Field) (gs : List (Option Given)) (ms : Members) → are_known fields fs ≡ true → are_words_of fields ms ≡ true
+    → are_words_of fields (with_fields (given_fields fs gs) ms) ≡ true
+all_words fields fs [] ms known are = are
+all_words fields [] (g ∷ gs) ms known are = are
+all_words fields (f ∷ fs) (g ∷ gs) ms known are =
+    let p = and_parts (is_word_of fields (word_of f)) (are_known fields fs) known in by g p.0 (λ ns kept. all_words fields fs gs ns p.1 kept)
+  where
+    by : (w : Option Given) → is_word_of fields (word_of f) ≡ true
+        → ((ns : Members) → are_words_of fields ns ≡ true → are_words_of fields (with_fields (given_fields fs gs) ns) ≡ true)
+        → are_words_of fields (with_fields (with_given f w (given_fields fs gs)) ms) ≡ true
+    by None word more = more ms are
+    by (Some h) word more = more (with_field (f, h) ms) (put_words fields (word_of f) (data_of h) ms word are)
+
+-- ---- the rows
+
+-- Whether the body of a row is read back.
+abbrev RowReads : Row → Type 0
+RowReads r = (is_readable r.form ≡ true) × (are_known (fields_in r.form) (fields_in r.form) ≡ true)
+
+reads_each : (rows : List Row) → list_all (λ r. is_readable r.form && are_known (fields_in r.form) (fields_in r.form)) rows ≡ true → AllByRecursion RowReads rows
+reads_each [] h = tt
+reads_each (r ∷ rs) h =
+    let p = and_parts (is_readable r.form && are_known (fields_in r.form) (fields_in r.form)) (list_all (λ r. is_readable r.form && are_known (fields_in r.form) (fields_in r.form)) rs) h in
+    and_parts (is_readable r.form) (are_known (fields_in r.form) (fields_in r.form)) p.0 & reads_each rs p.1
+
+rows_read : AllByRecursion RowReads all_rows
+rows_read = reads_each all_rows refl
+
+-- A command is made of its values under the row of its content type.
+abbrev Back : (at : Option Row) → Values (form_under at) → Command → Type 0
+Back None xs c = c ≡ command.Hello
+Back (Some r) xs c = c ≡ made_of r.form r.make xs
+
+back : (c : Command) → Back (row_at (content_of c)) (values_of c) c
+back command.Hello = refl
+back c = refl
+
 pub other_than_hello : (c : Command) → (c ≡ command.Hello → ⊥) → (content_of c == 0) ≡ false
 other_than_hello command.Hello other = absurd (other refl)
 other_than_hello c other = refl
 
+none_absent : (form : Form) → AreAbsent form no_members
+none_absent [] = tt
+none_absent (f ∷ fs) = refl & none_absent fs
+
+-- The object of a command's fields says the command.
+said_back : (r : Row) (xs : Values r.form) (c : Command) → RowHolds r → RowReads r → c ≡ made_of r.form r.make xs → is_spelled c ≡ true
+    → said_in r (object_with (given_fields (fields_in r.form) (each_written r.form xs))) ≡ Ok c
+said_back r xs c holds reads made h =
+    let each = hold_parts (all_checks r.form xs) (sym (holds.spelled xs) ∙ ap is_spelled (sym made) ∙ h) in
+    said_where r (object_with (given_fields (fields_in r.form) (each_written r.form xs))) xs
+    (all_words (fields_in r.form) (fields_in r.form) (each_written r.form xs) no_members reads.1 refl)
+    (each_told r.form xs no_members reads.0 each (none_absent r.form))
+    ∙ ap (λ d. Ok d) (sym made)
+
+-- What holds of the row at a content type, if there is one.
+abbrev IsSound : Option Row → Type 0
+IsSound None = ⊤
+IsSound (Some r) = RowHolds r × RowReads r
+
+sound_at : (content : ℕ) → IsSound (row_at content)
+sound_at content = by (row_at content) refl
+  where
+    by : (at : Option Row) → row_at content ≡ at → IsSound at
+    by None is = tt
+    by (Some r) is = (row_of_all RowHolds all_rows rows_hold content r is, row_of_all RowReads all_rows rows_read content r is)
+
+under_row : (at : Option Row) (xs : Values (form_under at)) (c : Command) (text : List ℕ) → IsSound at → Back at xs c → is_spelled c ≡ true → (c ≡ command.Hello → ⊥)
+    → object_of_body text ≡ Some (object_with (given_fields (fields_in (form_under at)) (each_written (form_under at) xs))) → meaning_under at text ≡ Ok c
+under_row None xs c text sound made h other is = absurd (other made)
+under_row (Some r) xs c text sound made h other is = ap (said_by (said_in r)) is ∙ ap with_cause (said_back r xs c sound.0 sound.1 made h)
+
 -- A body that is the object of a command's fields means the command.
-pub means_back : (c : Command) → is_spelled c ≡ true → (content_of c == 0) ≡ false → (text : List ℕ) → object_of_body text ≡ Some (body_object c)
+pub means_back : (c : Command) → is_spelled c ≡ true → (c ≡ command.Hello → ⊥) → (text : List ℕ) → object_of_body text ≡ Some (body_object c)
     → meaning (content_of c) text ≡ Ok c
-means_back command.Hello h other text is = absurd (false≢true (sym other))
-means_back (command.CreateIdentity name attributes) h other text is = by_reader (made command.CreateIdentity) text _ (command.CreateIdentity name attributes) is (made_back command.CreateIdentity name attributes h)
-means_back (command.UpdateIdentity name attributes) h other text is = by_reader (updated command.UpdateIdentity) text _ (command.UpdateIdentity name attributes) is (updated_back command.UpdateIdentity name attributes h)
-means_back (command.DeleteIdentity name) h other text is = by_reader (named field.Name command.DeleteIdentity) text _ (command.DeleteIdentity name) is (name_back field.Name command.DeleteIdentity name refl refl h)
-means_back (command.CreateService name attributes) h other text is = by_reader (made command.CreateService) text _ (command.CreateService name attributes) is (made_back command.CreateService name attributes h)
-means_back (command.UpdateService name attributes) h other text is = by_reader (updated command.UpdateService) text _ (command.UpdateService name attributes) is (updated_back command.UpdateService name attributes h)
-means_back (command.DeleteService name) h other text is = by_reader (named field.Name command.DeleteService) text _ (command.DeleteService name) is (name_back field.Name command.DeleteService name refl refl h)
-means_back (command.CreateRouter name attributes cost no_traversal) h other text is = by_reader made_router text _ (command.CreateRouter name attributes cost no_traversal) is (made_router_back name attributes cost no_traversal h)
-means_back (command.UpdateRouter name attributes cost no_traversal) h other text is = by_reader updated_router text _ (command.UpdateRouter name attributes cost no_traversal) is (updated_router_back name attributes cost no_traversal h)
-means_back (command.DeleteRouter name) h other text is = by_reader (named field.Name command.DeleteRouter) text _ (command.DeleteRouter name) is (name_back field.Name command.DeleteRouter name refl refl h)
-means_back (command.ConnectRouter name) h other text is = by_reader (named field.Name command.ConnectRouter) text _ (command.ConnectRouter name) is (name_back field.Name command.ConnectRouter name refl refl h)
-means_back (command.DisconnectRouter name) h other text is = by_reader (named field.Name command.DisconnectRouter) text _ (command.DisconnectRouter name) is (name_back field.Name command.DisconnectRouter name refl refl h)
-means_back (command.CreateServicePolicy name relation semantic left right) h other text is = by_reader (service_policy command.CreateServicePolicy) text _ (command.CreateServicePolicy name relation semantic left right) is (service_policy_back command.CreateServicePolicy name relation semantic left right h)
-means_back (command.UpdateServicePolicy name relation semantic left right) h other text is = by_reader (service_policy command.UpdateServicePolicy) text _ (command.UpdateServicePolicy name relation semantic left right) is (service_policy_back command.UpdateServicePolicy name relation semantic left right h)
-means_back (command.DeleteServicePolicy name) h other text is = by_reader (named field.Name command.DeleteServicePolicy) text _ (command.DeleteServicePolicy name) is (name_back field.Name command.DeleteServicePolicy name refl refl h)
-means_back (command.CreateEdgeRouterPolicy name semantic left right) h other text is = by_reader (router_policy field.IdentityRoles command.CreateEdgeRouterPolicy) text _ (command.CreateEdgeRouterPolicy name semantic left right) is (router_policy_back field.IdentityRoles command.CreateEdgeRouterPolicy name semantic left right (object_with (router_policy_fields field.IdentityRoles name semantic left right)) refl refl refl refl refl h)
-means_back (command.UpdateEdgeRouterPolicy name semantic left right) h other text is = by_reader (router_policy field.IdentityRoles command.UpdateEdgeRouterPolicy) text _ (command.UpdateEdgeRouterPolicy name semantic left right) is (router_policy_back field.IdentityRoles command.UpdateEdgeRouterPolicy name semantic left right (object_with (router_policy_fields field.IdentityRoles name semantic left right)) refl refl refl refl refl h)
-means_back (command.DeleteEdgeRouterPolicy name) h other text is = by_reader (named field.Name command.DeleteEdgeRouterPolicy) text _ (command.DeleteEdgeRouterPolicy name) is (name_back field.Name command.DeleteEdgeRouterPolicy name refl refl h)
-means_back (command.CreateServiceEdgeRouterPolicy name semantic left right) h other text is = by_reader (router_policy field.ServiceRoles command.CreateServiceEdgeRouterPolicy) text _ (command.CreateServiceEdgeRouterPolicy name semantic left right) is (router_policy_back field.ServiceRoles command.CreateServiceEdgeRouterPolicy name semantic left right (object_with (router_policy_fields field.ServiceRoles name semantic left right)) refl refl refl refl refl h)
-means_back (command.UpdateServiceEdgeRouterPolicy name semantic left right) h other text is = by_reader (router_policy field.ServiceRoles command.UpdateServiceEdgeRouterPolicy) text _ (command.UpdateServiceEdgeRouterPolicy name semantic left right) is (router_policy_back field.ServiceRoles command.UpdateServiceEdgeRouterPolicy name semantic left right (object_with (router_policy_fields field.ServiceRoles name semantic left right)) refl refl refl refl refl h)
-means_back (command.DeleteServiceEdgeRouterPolicy name) h other text is = by_reader (named field.Name command.DeleteServiceEdgeRouterPolicy) text _ (command.DeleteServiceEdgeRouterPolicy name) is (name_back field.Name command.DeleteServiceEdgeRouterPolicy name refl refl h)
-means_back (command.CreateLink name a b cost latency_a latency_b) h other text is = by_reader made_link text _ (command.CreateLink name a b cost latency_a latency_b) is (link_back name a b cost latency_a latency_b h)
-means_back (command.SetLinkCost link cost) h other text is = by_reader link_cost text _ (command.SetLinkCost link cost) is (link_cost_back link cost h)
-means_back (command.ReportLatency link router latency) h other text is = by_reader reported_latency text _ (command.ReportLatency link router latency) is (latency_back link router latency h)
-means_back (command.ReportState link router up) h other text is = by_reader reported_state text _ (command.ReportState link router up) is (state_back link router up h)
-means_back (command.DeleteLink link) h other text is = by_reader (named field.Link command.DeleteLink) text _ (command.DeleteLink link) is (name_back field.Link command.DeleteLink link refl refl h)
-means_back (command.SetLeastRouterCost cost) h other text is = by_reader least_router_cost text _ (command.SetLeastRouterCost cost) is (least_back cost h)
-means_back (command.CreateTerminator service router instance host cost precedence) h other text is = by_reader made_terminator text _ (command.CreateTerminator service router instance host cost precedence) is (terminator_back service router instance host cost precedence h)
-means_back (command.UpdateTerminator n cost precedence) h other text is = by_reader updated_terminator text _ (command.UpdateTerminator n cost precedence) is (updated_terminator_back n cost precedence h)
-means_back (command.DeleteTerminator n) h other text is = by_reader (numbered command.DeleteTerminator) text _ (command.DeleteTerminator n) is (no_back command.DeleteTerminator n h)
-means_back (command.CreateCircuit identity service ingress instance) h other text is = by_reader (asked_circuit command.CreateCircuit) text _ (command.CreateCircuit identity service ingress instance) is (asked_back command.CreateCircuit identity service ingress instance h)
-means_back (command.DeleteCircuit n) h other text is = by_reader (numbered command.DeleteCircuit) text _ (command.DeleteCircuit n) is (no_back command.DeleteCircuit n h)
-means_back (command.Explain identity service ingress instance) h other text is = by_reader (asked_circuit command.Explain) text _ (command.Explain identity service ingress instance) is (asked_back command.Explain identity service ingress instance h)
-means_back (command.VerifyRoute identity service ingress instance chosen links potentials routers terminator total) h other text is = by_reader claimed_route text _ (command.VerifyRoute identity service ingress instance chosen links potentials routers terminator total) is (claimed_back identity service ingress instance chosen links potentials routers terminator total h)
-means_back (command.ShowGrants identity) h other text is = by_reader (named field.Identity command.ShowGrants) text _ (command.ShowGrants identity) is (name_back field.Identity command.ShowGrants identity refl refl h)
-means_back (command.ListServices identity) h other text is = by_reader (named field.Identity command.ListServices) text _ (command.ListServices identity) is (name_back field.Identity command.ListServices identity refl refl h)
-means_back command.ShowCounts h other text is = by_reader (plain command.ShowCounts) text _ command.ShowCounts is (shape.plain_says command.ShowCounts (body_object command.ShowCounts) refl)
-means_back (command.ShowCircuit n) h other text is = by_reader (numbered command.ShowCircuit) text _ (command.ShowCircuit n) is (no_back command.ShowCircuit n h)
-means_back command.Compact h other text is = by_reader (plain command.Compact) text _ command.Compact is (shape.plain_says command.Compact (body_object command.Compact) refl)
-means_back (command.SetIntercept service intercept) h other text is = by_reader set_intercept text _ (command.SetIntercept service intercept) is (intercept_back service intercept h)
-means_back (command.ClearIntercept service) h other text is = by_reader (named field.Service command.ClearIntercept) text _ (command.ClearIntercept service) is (name_back field.Service command.ClearIntercept service refl refl h)
-means_back (command.Pick identity udp address port) h other text is = by_reader pick text _ (command.Pick identity udp address port) is (pick_back identity udp address port h)
-means_back (command.ListClashes identity service) h other text is = by_reader list_clashes text _ (command.ListClashes identity service) is (clashes_back identity service h)
+means_back c h other text is =
+    ap (λ b. cond b (Ok command.Hello) (meaning_under (row_at (content_of c)) text)) (other_than_hello c other)
+    ∙ under_row (row_at (content_of c)) (values_of c) c text (sound_at (content_of c)) (back c) h other is

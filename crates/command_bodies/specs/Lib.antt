@@ -3,3 +3,4 @@ pub mod WrittenFields
 pub mod WrittenWords
 pub mod CommandFields
 pub mod BodyTexts
+pub mod ValueTexts

@@ -67,7 +67,7 @@ with_fields (f ∷ fs) ms = with_fields fs (with_field f ms)
 abbrev pub object_with : List (Field × Given) → Data
 object_with fs = object (with_fields fs no_members)
 
--- A name in a field that is left out where there is none.
-abbrev pub name_if_any : Field → Option (List ℕ) → List (Field × Given)
-name_if_any of_field None = []
-name_if_any of_field (Some name) = (of_field, a_text name) ∷ []
+-- A text, if there is one.
+abbrev pub text_if_any : Option (List ℕ) → Option Given
+text_if_any None = None
+text_if_any (Some bytes) = Some (a_text bytes)

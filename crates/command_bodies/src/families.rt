@@ -1,33 +1,30 @@
+// The values that a command gives in the fields of its form, family by family.
 ghost use Rattle.std.specs.Prelude.{◌≡◌, true, OnOk};
 ghost use Rattle.serde_json.specs.View.{members_view};
 ghost use Rattle.ctrl_model.specs.CommandForm.{is_spelled};
-ghost use Rattle.command_bodies.specs.CommandFields.{fields_of, fields_between};
+ghost use Rattle.command_bodies.specs.CommandFields.{fields_of, form_of, given_fields, values_between};
 ghost use Rattle.command_bodies.specs.WrittenFields.{with_fields};
+ghost use Rattle.command_codec.specs.BodyForms.{fields_in};
 
-use crate::giving::{
-    put_asked, put_changed_terminator, put_claim, put_entity, put_intercept, put_link,
-    put_link_end, put_pick, put_router, put_router_policy, put_service_policy, put_terminator,
+use crate::field_values::BodyMembers;
+use crate::field_values::FieldValue::{
+    Address, Addresses, Flag, Instance, Name, NameOrNone, Names, Number, Numbers, Potentials,
+    Protocols, Ranges, Roles, Word,
 };
-use crate::putting::{put_name, put_number, put_value};
-use ctrl_model::{Command, Field};
-use serde_json::{Map, Value};
-use std::alloc::{AllocError, Global};
+use crate::spelling::{precedence_word, protocol_word, relation_word, semantic_word};
+use ctrl_model::Command;
+use std::alloc::AllocError;
 
-// Puts the fields of a command on identities, services or edge routers. Another command's are not put.
-fn put_entities(
-    alloc: Global,
-    members: &mut Map<String, Value>,
-    command: &Command,
-) -> Result<(), AllocError>
-    ensures { OnOk result (members_view members.new.entries ≡ with_fields (fields_between 1000 1100 command.now) (members_view members.old.entries)) }
+// Puts what a command on identities, services or edge routers gives. Of another command nothing is put.
+fn put_entities(body: &mut BodyMembers, command: &Command) -> Result<(), AllocError>
+    ensures fields { body.new.fields ≡ body.old.fields }
+    ensures put { OnOk result (members_view body.new.members.entries ≡ with_fields (given_fields body.old.fields.now (values_between 1000 1100 command.now)) (members_view body.old.members.entries)) }
 {
     match command {
         Command::CreateIdentity { name, attributes }
         | Command::UpdateIdentity { name, attributes }
         | Command::CreateService { name, attributes }
-        | Command::UpdateService { name, attributes } => {
-            put_entity(alloc, members, name, attributes)
-        }
+        | Command::UpdateService { name, attributes } => body.put(&[Name(name), Names(attributes)]),
         Command::CreateRouter {
             name,
             attributes,
@@ -39,23 +36,25 @@ fn put_entities(
             attributes,
             cost,
             no_traversal,
-        } => put_router(alloc, members, name, attributes, *cost, *no_traversal),
+        } => body.put(&[
+            Name(name),
+            Names(attributes),
+            Number(*cost),
+            Flag(*no_traversal),
+        ]),
         Command::DeleteIdentity { name }
         | Command::DeleteService { name }
         | Command::DeleteRouter { name }
         | Command::ConnectRouter { name }
-        | Command::DisconnectRouter { name } => put_name(alloc, members, Field::Name, name),
+        | Command::DisconnectRouter { name } => body.put(&[Name(name)]),
         _ => Ok(()),
     }
 }
 
-// Puts the fields of a command on service policies. Another command's are not put.
-fn put_service_policies(
-    alloc: Global,
-    members: &mut Map<String, Value>,
-    command: &Command,
-) -> Result<(), AllocError>
-    ensures { OnOk result (members_view members.new.entries ≡ with_fields (fields_between 1100 1110 command.now) (members_view members.old.entries)) }
+// Puts what a command on service policies gives. Of another command nothing is put.
+fn put_service_policies(body: &mut BodyMembers, command: &Command) -> Result<(), AllocError>
+    ensures fields { body.new.fields ≡ body.old.fields }
+    ensures put { OnOk result (members_view body.new.members.entries ≡ with_fields (given_fields body.old.fields.now (values_between 1100 1110 command.now)) (members_view body.old.members.entries)) }
 {
     match command {
         Command::CreateServicePolicy {
@@ -71,97 +70,63 @@ fn put_service_policies(
             semantic,
             identity_roles,
             service_roles,
-        } => put_service_policy(
-            alloc,
-            members,
-            name,
-            *relation,
-            *semantic,
-            identity_roles,
-            service_roles,
-        ),
-        Command::DeleteServicePolicy { name } => put_name(alloc, members, Field::Name, name),
+        } => body.put(&[
+            Name(name),
+            Word(relation_word(*relation)),
+            Word(semantic_word(*semantic)),
+            Roles(identity_roles),
+            Roles(service_roles),
+        ]),
+        Command::DeleteServicePolicy { name } => body.put(&[Name(name)]),
         _ => Ok(()),
     }
 }
 
-// Puts the fields of a command on edge router policies. Another command's are not put.
-fn put_edge_router_policies(
-    alloc: Global,
-    members: &mut Map<String, Value>,
-    command: &Command,
-) -> Result<(), AllocError>
-    ensures { OnOk result (members_view members.new.entries ≡ with_fields (fields_between 1110 1120 command.now) (members_view members.old.entries)) }
+// Puts what a command on policies that give routers gives. Of another command nothing is put.
+fn put_router_policies(body: &mut BodyMembers, command: &Command) -> Result<(), AllocError>
+    ensures fields { body.new.fields ≡ body.old.fields }
+    ensures put { OnOk result (members_view body.new.members.entries ≡ with_fields (given_fields body.old.fields.now (values_between 1110 1200 command.now)) (members_view body.old.members.entries)) }
 {
     match command {
-        Command::DeleteEdgeRouterPolicy { name } => put_name(alloc, members, Field::Name, name),
         Command::CreateEdgeRouterPolicy {
             name,
             semantic,
-            identity_roles,
+            identity_roles: roles,
             router_roles,
         }
         | Command::UpdateEdgeRouterPolicy {
             name,
             semantic,
-            identity_roles,
+            identity_roles: roles,
             router_roles,
-        } => put_router_policy(
-            alloc,
-            members,
-            Field::IdentityRoles,
-            name,
-            *semantic,
-            identity_roles,
-            router_roles,
-        ),
-        _ => Ok(()),
-    }
-}
-
-// Puts the fields of a command on service edge router policies. Another command's are not put.
-fn put_service_edge_router_policies(
-    alloc: Global,
-    members: &mut Map<String, Value>,
-    command: &Command,
-) -> Result<(), AllocError>
-    ensures { OnOk result (members_view members.new.entries ≡ with_fields (fields_between 1120 1200 command.now) (members_view members.old.entries)) }
-{
-    match command {
-        Command::CreateServiceEdgeRouterPolicy {
+        }
+        | Command::CreateServiceEdgeRouterPolicy {
             name,
             semantic,
-            service_roles,
+            service_roles: roles,
             router_roles,
         }
         | Command::UpdateServiceEdgeRouterPolicy {
             name,
             semantic,
-            service_roles,
+            service_roles: roles,
             router_roles,
-        } => put_router_policy(
-            alloc,
-            members,
-            Field::ServiceRoles,
-            name,
-            *semantic,
-            service_roles,
-            router_roles,
-        ),
-        Command::DeleteServiceEdgeRouterPolicy { name } => {
-            put_name(alloc, members, Field::Name, name)
-        }
+        } => body.put(&[
+            Name(name),
+            Word(semantic_word(*semantic)),
+            Roles(roles),
+            Roles(router_roles),
+        ]),
+        Command::DeleteEdgeRouterPolicy { name }
+        | Command::DeleteServiceEdgeRouterPolicy { name } => body.put(&[Name(name)]),
         _ => Ok(()),
     }
 }
 
-// Puts the fields of a command on links or the least router cost. Another command's are not put.
-fn put_links(
-    alloc: Global,
-    members: &mut Map<String, Value>,
-    command: &Command,
-) -> Result<(), AllocError>
-    ensures { OnOk result (members_view members.new.entries ≡ with_fields (fields_between 1200 1300 command.now) (members_view members.old.entries)) }
+// Puts what a command on links or the least router cost gives. Of another command nothing is put.
+fn put_links(body: &mut BodyMembers, command: &Command) -> Result<(), AllocError>
+    ensures fields { body.new.fields ≡ body.old.fields }
+    ensures put { OnOk result (members_view body.new.members.entries ≡ with_fields (given_fields body.old.fields.now (values_between 1200 1300 command.now)) (members_view body.old.members.entries)) }
 {
     match command {
         Command::CreateLink {
@@ -171,36 +136,35 @@ fn put_links(
             cost,
             latency_a,
             latency_b,
-        } => put_link(alloc, members, name, a, b, *cost, *latency_a, *latency_b),
-        Command::SetLinkCost { link, cost } => {
-            put_name(alloc, members, Field::Link, link)?;
-            put_number(alloc, members, Field::Cost, *cost)
-        }
-        Command::DeleteLink { link } => put_name(alloc, members, Field::Link, link),
-        Command::SetLeastRouterCost { cost } => put_number(alloc, members, Field::Cost, *cost),
+        } => body.put(&[
+            Name(name),
+            Name(a),
+            Name(b),
+            Number(*cost),
+            Number(*latency_a),
+            Number(*latency_b),
+        ]),
+        Command::SetLinkCost { link, cost } => body.put(&[Name(link), Number(*cost)]),
         Command::ReportLatency {
             link,
             router,
             latency,
-        } => {
-            put_link_end(alloc, members, link, router)?;
-            put_number(alloc, members, Field::Latency, *latency)
-        }
-        Command::ReportState { link, router, up } => {
-            put_link_end(alloc, members, link, router)?;
-            put_value(alloc, members, Field::Up, Value::Bool(*up))
-        }
+        } => body.put(&[Name(link), Name(router), Number(*latency)]),
+        Command::ReportState { link, router, up } => body.put(&[
+            Name(link),
+            Name(router),
+            Flag(*up),
+        ]),
+        Command::DeleteLink { link } => body.put(&[Name(link)]),
+        Command::SetLeastRouterCost { cost } => body.put(&[Number(*cost)]),
         _ => Ok(()),
     }
 }
 
-// Puts the fields of a command on terminators. Another command's are not put.
-fn put_terminators(
-    alloc: Global,
-    members: &mut Map<String, Value>,
-    command: &Command,
-) -> Result<(), AllocError>
-    ensures { OnOk result (members_view members.new.entries ≡ with_fields (fields_between 1300 1400 command.now) (members_view members.old.entries)) }
+// Puts what a command on terminators gives. Of another command nothing is put.
+fn put_terminators(body: &mut BodyMembers, command: &Command) -> Result<(), AllocError>
+    ensures fields { body.new.fields ≡ body.old.fields }
+    ensures put { OnOk result (members_view body.new.members.entries ≡ with_fields (given_fields body.old.fields.now (values_between 1300 1400 command.now)) (members_view body.old.members.entries)) }
 {
     match command {
         Command::CreateTerminator {
@@ -210,33 +174,32 @@ fn put_terminators(
             host,
             cost,
             precedence,
-        } => put_terminator(
-            alloc,
-            members,
-            service,
-            router,
-            instance,
-            host,
-            *cost,
-            *precedence,
-        ),
+        } => body.put(&[
+            Name(service),
+            Name(router),
+            Instance(instance),
+            NameOrNone(host),
+            Number(*cost),
+            Word(precedence_word(*precedence)),
+        ]),
         Command::UpdateTerminator {
             no,
             cost,
             precedence,
-        } => put_changed_terminator(alloc, members, *no, *cost, *precedence),
-        Command::DeleteTerminator { no } => put_number(alloc, members, Field::No, *no),
+        } => body.put(&[
+            Number(*no),
+            Number(*cost),
+            Word(precedence_word(*precedence)),
+        ]),
+        Command::DeleteTerminator { no } => body.put(&[Number(*no)]),
         _ => Ok(()),
     }
 }
 
-// Puts the fields of VerifyRoute. Another command's are not put.
-fn put_route(
-    alloc: Global,
-    members: &mut Map<String, Value>,
-    command: &Command,
-) -> Result<(), AllocError>
-    ensures { OnOk result (members_view members.new.entries ≡ with_fields (fields_between 1403 1404 command.now) (members_view members.old.entries)) }
+// Puts what VerifyRoute gives. Of another command nothing is put.
+fn put_route(body: &mut BodyMembers, command: &Command) -> Result<(), AllocError>
+    ensures fields { body.new.fields ≡ body.old.fields }
+    ensures put { OnOk result (members_view body.new.members.entries ≡ with_fields (given_fields body.old.fields.now (values_between 1403 1404 command.now)) (members_view body.old.members.entries)) }
 {
     match command {
         Command::VerifyRoute {
@@ -250,30 +213,26 @@ fn put_route(
             routers,
             terminator,
             total,
-        } => {
-            put_claim(
-                alloc,
-                members,
-                chosen,
-                links,
-                potentials,
-                routers,
-                *terminator,
-                *total,
-            )?;
-            put_asked(alloc, members, identity, service, ingress, instance)
-        }
+        } => body.put(&[
+            Name(identity),
+            Name(service),
+            NameOrNone(ingress),
+            Instance(instance),
+            Name(chosen),
+            Numbers(links),
+            Potentials(potentials),
+            Numbers(routers),
+            Number(*terminator),
+            Number(*total),
+        ]),
         _ => Ok(()),
     }
 }
 
-// Puts the fields of a command on circuits or routes, or of one that shows what there is. Another command's are not put.
-fn put_circuits(
-    alloc: Global,
-    members: &mut Map<String, Value>,
-    command: &Command,
-) -> Result<(), AllocError>
-    ensures { OnOk result (members_view members.new.entries ≡ with_fields (fields_between 1400 1600 command.now) (members_view members.old.entries)) }
+// Puts what a command on circuits or routes gives, or one that shows what there is. Of another command nothing is put.
+fn put_circuits(body: &mut BodyMembers, command: &Command) -> Result<(), AllocError>
+    ensures fields { body.new.fields ≡ body.old.fields }
+    ensures put { OnOk result (members_view body.new.members.entries ≡ with_fields (given_fields body.old.fields.now (values_between 1400 1600 command.now)) (members_view body.old.members.entries)) }
 {
     match command {
         Command::CreateCircuit {
@@ -287,60 +246,61 @@ fn put_circuits(
             service,
             ingress,
             instance,
-        } => put_asked(alloc, members, identity, service, ingress, instance),
-        Command::DeleteCircuit { no } | Command::ShowCircuit { no } => {
-            put_number(alloc, members, Field::No, *no)
-        }
-        Command::ShowGrants { identity } | Command::ListServices { identity } => {
-            put_name(alloc, members, Field::Identity, identity)
-        }
-        _ => put_route(alloc, members, command),
+        } => body.put(&[
+            Name(identity),
+            Name(service),
+            NameOrNone(ingress),
+            Instance(instance),
+        ]),
+        Command::DeleteCircuit { no } | Command::ShowCircuit { no } => body.put(&[Number(*no)]),
+        Command::ShowGrants { identity } | Command::ListServices { identity } => body.put(&[Name(
+            identity,
+        )]),
+        _ => put_route(body, command),
     }
 }
 
-// Puts the fields of a command on intercepts. Another command's are not put.
-fn put_intercepts(
-    alloc: Global,
-    members: &mut Map<String, Value>,
-    command: &Command,
-) -> Result<(), AllocError>
+// Puts what a command on intercepts gives. Of another command nothing is put.
+fn put_intercepts(body: &mut BodyMembers, command: &Command) -> Result<(), AllocError>
     requires { is_spelled command.now ≡ true }
-    ensures { OnOk result (members_view members.new.entries ≡ with_fields (fields_between 1600 1700 command.now) (members_view members.old.entries)) }
+    ensures fields { body.new.fields ≡ body.old.fields }
+    ensures put { OnOk result (members_view body.new.members.entries ≡ with_fields (given_fields body.old.fields.now (values_between 1600 1700 command.now)) (members_view body.old.members.entries)) }
 {
     match command {
-        Command::SetIntercept { service, intercept } => {
-            put_intercept(alloc, members, service, intercept)
-        }
-        Command::ClearIntercept { service } => put_name(alloc, members, Field::Service, service),
+        Command::SetIntercept { service, intercept } => body.put(&[
+            Name(service),
+            Protocols(intercept.tcp, intercept.udp),
+            Addresses(&intercept.addresses),
+            Ranges(&intercept.ports),
+        ]),
+        Command::ClearIntercept { service } => body.put(&[Name(service)]),
         Command::Pick {
             identity,
             udp,
             address,
             port,
-        } => put_pick(alloc, members, identity, *udp, address, *port),
-        Command::ListClashes { identity, service } => {
-            put_name(alloc, members, Field::Identity, identity)?;
-            put_name(alloc, members, Field::Service, service)
-        }
+        } => body.put(&[
+            Name(identity),
+            Word(protocol_word(*udp)),
+            Address(address),
+            Number(*port),
+        ]),
+        Command::ListClashes { identity, service } => body.put(&[Name(identity), Name(service)]),
         _ => Ok(()),
     }
 }
 
-/// Puts the fields of a command that some body spells: every field, but a host or an ingress that is none.
-pub(crate) fn put_fields(
-    alloc: Global,
-    members: &mut Map<String, Value>,
-    command: &Command,
-) -> Result<(), AllocError>
-    requires { is_spelled command.now ≡ true }
-    ensures { OnOk result (members_view members.new.entries ≡ with_fields (fields_of command.now) (members_view members.old.entries)) }
+/// Puts the fields of a command that some body spells: every field of its form, but a host or an ingress that is none.
+pub(crate) fn put_fields(body: &mut BodyMembers, command: &Command) -> Result<(), AllocError>
+    requires spelled { is_spelled command.now ≡ true }
+    requires fields { body.old.fields.now ≡ fields_in (form_of command.now) }
+    ensures { OnOk result (members_view body.new.members.entries ≡ with_fields (fields_of command.now) (members_view body.old.members.entries)) }
 {
-    put_entities(alloc, members, command)?;
-    put_service_policies(alloc, members, command)?;
-    put_edge_router_policies(alloc, members, command)?;
-    put_service_edge_router_policies(alloc, members, command)?;
-    put_links(alloc, members, command)?;
-    put_terminators(alloc, members, command)?;
-    put_circuits(alloc, members, command)?;
-    put_intercepts(alloc, members, command)
+    put_entities(body, command)?;
+    put_service_policies(body, command)?;
+    put_router_policies(body, command)?;
+    put_links(body, command)?;
+    put_terminators(body, command)?;
+    put_circuits(body, command)?;
+    put_intercepts(body, command)
 }

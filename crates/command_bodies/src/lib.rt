@@ -3,7 +3,7 @@
 
 mod content_types;
 mod families;
-mod giving;
+mod field_values;
 mod listing;
 mod putting;
 mod spelling;

@@ -7,7 +7,10 @@ ghost use Rattle.command_codec.specs.BodyObjects.{object_of_body};
 ghost use Rattle.command_codec.specs.ContentTypes.{content_of};
 ghost use Rattle.command_bodies.specs.BodyTexts.{body_object, body_text};
 
+use crate::content_types::content_of;
 use crate::families::put_fields;
+use crate::field_values::BodyMembers;
+use command_codec::fields_of;
 use ctrl_model::{Bytes, Command};
 use serde_json::{Map, Value};
 use std::alloc::{AllocError, Global};
@@ -16,9 +19,13 @@ fn object_value(alloc: Global, command: &Command) -> Result<Value, AllocError>
     requires { is_spelled command.now ≡ true }
     ensures { IfOk result (λ v. view v ≡ body_object command.now) }
 {
-    let mut members = Map::new(alloc);
-    put_fields(alloc, &mut members, command)?;
-    Ok(Value::Object(members))
+    let mut body = BodyMembers {
+        alloc,
+        fields: fields_of(content_of(command)),
+        members: Map::new(alloc),
+    };
+    put_fields(&mut body, command)?;
+    Ok(Value::Object(body.members))
 }
 
 // The object of a command's fields as compact JSON, which reads as the object.

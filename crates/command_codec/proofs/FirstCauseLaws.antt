@@ -8,9 +8,14 @@ use Rattle.ctrl_model.specs.declared.commands.Command.{Command}
 use Rattle.ctrl_model.specs.declared.refusals.Field.{Field}
 use Rattle.json_body.specs.declared.fields.FieldFault.{FieldFault}
 use Rattle.json_body.specs.declared.fields.FieldFault.TheVariants.{Missing, WrongKind, Unknown}
-use Rattle.json_body.specs.FieldKinds.{member_of, required_from, required, optional_from, optional, has_only, finished}
+use Rattle.json_body.specs.FieldKinds.{member_of, required_from, required, optional_from, optional, has_only}
 use Rattle.command_codec.specs.BodyObjects.{◌>>=◌}
-use Rattle.body_fields.specs.FieldRules.{FieldRule, needs, may_have, Breaks, Keeps, BreaksFirst, HasAnotherKey}
+use Rattle.body_fields.specs.FieldRules.{FieldRule, needs, may_have, Breaks, Keeps, BreaksFirst, HasAnotherKey, rule_of}
+use Rattle.command_codec.specs.BodyForms.{BodyField, Form, Makes, asked_by, rules_in}
+use Rattle.command_codec.specs.declared.body_kinds.BodyKind.{BodyKind}
+use Rattle.command_codec.specs.declared.body_kinds.BodyKind.TheVariants as body
+use Rattle.command_codec.specs.BodyKinds.{Said, as_kind, is_of_kind}
+use Rattle.command_codec.specs.BodyMeaning.{said_of, field_said, given, ended}
 
 -- What is said is a fault exactly where an object that is to keep these rules, and to have the words of these fields alone, has it
 -- as its first one.
@@ -91,7 +96,7 @@ keeps_by kind needed of_field o d x there said f (inr b) =
 
 -- ---- one field after another
 
-pub required_first : {A : Type 0} (kind : Data → Option A) (of_field : Field) (fields : List Field) (rules : List FieldRule) (o : Data) (k : A → Result Command FieldFault)
+required_first : {A : Type 0} (kind : Data → Option A) (of_field : Field) (fields : List Field) (rules : List FieldRule) (o : Data) (k : A → Result Command FieldFault)
     → ((x : A) → TellsFirst fields rules o (k x)) → TellsFirst fields (needs kind of_field ∷ rules) o (required kind of_field o >>= k)
 required_first {A} kind of_field fields rules o k rest = by (member_of of_field o) refl
   where
@@ -103,7 +108,7 @@ required_first {A} kind of_field fields rules o k rest = by (member_of of_field 
     by None is = stops_here (needs kind of_field) fields rules o (Missing of_field) (inl (record { needed = refl; absent = is; told = refl }))
     by (Some d) is = said d is (kind d) refl
 
-pub optional_first : {A : Type 0} (kind : Data → Option A) (otherwise : A) (of_field : Field) (fields : List Field) (rules : List FieldRule) (o : Data) (k : A → Result Command FieldFault)
+optional_first : {A : Type 0} (kind : Data → Option A) (otherwise : A) (of_field : Field) (fields : List Field) (rules : List FieldRule) (o : Data) (k : A → Result Command FieldFault)
     → ((x : A) → TellsFirst fields rules o (k x)) → TellsFirst fields (may_have kind of_field ∷ rules) o (optional kind otherwise of_field o >>= k)
 optional_first {A} kind otherwise of_field fields rules o k rest = by (member_of of_field o) refl
   where
@@ -120,7 +125,7 @@ optional_first {A} kind otherwise of_field fields rules o k rest = by (member_of
     by (Some d) is = said d is (kind d) refl
 
 -- What is said of no more fields.
-pub none_first : (fields : List Field) (o : Data) (c : Command) → TellsFirst fields [] o (finished fields o >>= λ end. Ok c)
+none_first : (fields : List Field) (o : Data) (c : Command) → TellsFirst fields [] o (ended fields o c)
 none_first fields o c f = by (has_only fields o) refl
   where
     by : (b : Bool) → has_only fields o ≡ b → ((cond b (Ok tt) (Err Unknown) >>= λ (end : ⊤). Ok c) ≡ Err f) ↔ (BreaksFirst [] o f ⊎ HasAnotherKey [] fields o f)
@@ -143,18 +148,48 @@ none_first fields o c f = by (has_only fields o) refl
         other (inl h) = absurd (nothing h.before h.rule h.behind h.place)
         other (inr h) = ap (λ g. Err g) (sym h.told)
 
--- Fields that are gathered into one value first.
-gathered : {A B : Type 0} (r : Result A FieldFault) (g : A → Result B FieldFault) (k : B → Result Command FieldFault) → ((r >>= g) >>= k) ≡ (r >>= λ x. g x >>= k)
-gathered (Ok x) g k = refl
-gathered (Err e) g k = refl
+-- ---- a form
 
-pub required_gathered : {A B : Type 0} (kind : Data → Option A) (of_field : Field) (fields : List Field) (rules : List FieldRule) (o : Data) (g : A → Result B FieldFault)
-    (k : B → Result Command FieldFault) → ((x : A) → TellsFirst fields rules o (g x >>= k)) → TellsFirst fields (needs kind of_field ∷ rules) o ((required kind of_field o >>= g) >>= k)
-required_gathered kind of_field fields rules o g k rest =
-    subst (TellsFirst fields (needs kind of_field ∷ rules) o) (sym (gathered (required kind of_field o) g k)) (required_first kind of_field fields rules o (λ x. g x >>= k) rest)
+-- A value is of a kind where it says something of it.
+same_kind : (k : BodyKind) (d : Data) → is_some (as_kind k d) ≡ is_of_kind k d
+same_kind body.Name d = refl
+same_kind body.NameOrNone d = refl
+same_kind body.Attributes d = refl
+same_kind body.Side d = refl
+same_kind (body.Number low high) d = refl
+same_kind body.Flag d = refl
+same_kind body.Relation d = refl
+same_kind body.Semantic d = refl
+same_kind body.Precedence d = refl
+same_kind body.Instance d = refl
+same_kind (body.Numbers most) d = refl
+same_kind body.Potentials d = refl
+same_kind body.Protocol d = refl
+same_kind body.Protocols d = refl
+same_kind body.Destination d = refl
+same_kind body.Addresses d = refl
+same_kind body.Ranges d = refl
 
-pub optional_gathered : {A B : Type 0} (kind : Data → Option A) (otherwise : A) (of_field : Field) (fields : List Field) (rules : List FieldRule) (o : Data) (g : A → Result B FieldFault)
-    (k : B → Result Command FieldFault) → ((x : A) → TellsFirst fields rules o (g x >>= k))
-    → TellsFirst fields (may_have kind of_field ∷ rules) o ((optional kind otherwise of_field o >>= g) >>= k)
-optional_gathered kind otherwise of_field fields rules o g k rest =
-    subst (TellsFirst fields (may_have kind of_field ∷ rules) o) (sym (gathered (optional kind otherwise of_field o) g k)) (optional_first kind otherwise of_field fields rules o (λ x. g x >>= k) rest)
+-- What is said of a field, with the rule of it.
+field_first : (f : BodyField) (fields : List Field) (rules : List FieldRule) (o : Data) (k : Said f.kind → Result Command FieldFault) → ((x : Said f.kind) → TellsFirst fields rules o (k x))
+    → TellsFirst fields (rule_of is_of_kind (asked_by f.kind f.otherwise f.of_field) ∷ rules) o (field_said f o >>= k)
+field_first f fields rules o k rest = by f.otherwise
+  where
+    by : (w : Option (Said f.kind)) → TellsFirst fields (rule_of is_of_kind (asked_by f.kind w f.of_field) ∷ rules) o (said_of f.kind w f.of_field o >>= k)
+    by None =
+        subst (λ (is_of : Data → Bool). TellsFirst fields (record { of_field = f.of_field; is_needed = true; is_of_kind = is_of } ∷ rules) o (required (as_kind f.kind) f.of_field o >>= k))
+        (λ i d. same_kind f.kind d i) (required_first (as_kind f.kind) f.of_field fields rules o k rest)
+    by (Some x) =
+        subst (λ (is_of : Data → Bool). TellsFirst fields (record { of_field = f.of_field; is_needed = false; is_of_kind = is_of } ∷ rules) o (optional (as_kind f.kind) x f.of_field o >>= k))
+        (λ i d. same_kind f.kind d i) (optional_first (as_kind f.kind) x f.of_field fields rules o k rest)
+
+behind : {A : Type 0} (r : Result A FieldFault) (g : A → Result Command FieldFault) (k : Command → Result Command FieldFault) → ((r >>= g) >>= k) ≡ (r >>= λ x. g x >>= k)
+behind (Ok x) g k = refl
+behind (Err e) g k = refl
+
+-- What an object says under a form is a fault exactly where that is its first one.
+pub form_first : (fields : List Field) (form : Form) (make : Makes form) (o : Data) → TellsFirst fields (rules_in form) o (given form make o >>= ended fields o)
+form_first fields [] c o = none_first fields o c
+form_first fields (f ∷ fs) make o =
+    subst (TellsFirst fields (rules_in (f ∷ fs)) o) (sym (behind (field_said f o) (λ x. given fs (make x) o) (ended fields o)))
+    (field_first f fields (rules_in fs) o (λ x. given fs (make x) o >>= ended fields o) (λ x. form_first fields fs (make x) o))

@@ -1,7 +1,6 @@
--- The rules of a form tell what the entry of its content type says: a fault where they have a first one, and else a command.
-use Rattle.std.proofs.Common.{◌≡◌, ℕ, ◌==◌, ◌+◌, ◌<◌, ◌≤◌, true, false, List, Option, Some, None, Result, Ok, Err, refl, sym, ◌∙◌, subst, ◌⊎◌, inl, inr, arith}
-use Rattle.std.specs.Prelude.{IsOk, IsSome, is_some, option_map}
-use Rattle.std.specs.Map.{lookup}
+-- What the code has of a form tells what the row of its content type says: a fault where its rules have a first one, and else a command.
+use Rattle.std.proofs.Common.{◌≡◌, ℕ, ◌+◌, ◌<◌, ◌≤◌, true, false, List, [], Option, Some, None, Result, Ok, Err, refl, sym, ap, ◌∙◌, subst, ◌⊎◌, inl, inr, arith}
+use Rattle.std.specs.Prelude.{IsOk, is_some, option_map}
 use Rattle.std.proofs.Math.Nat.{eq-or-lt_of_le}
 use Rattle.std.proofs.lemmas.Bool.{false≢true}
 use Rattle.std.proofs.lemmas.Option.{same_Some}
@@ -10,43 +9,55 @@ use Rattle.ctrl_model.specs.declared.commands.Command.{Command}
 use Rattle.ctrl_model.specs.declared.refusals.Field.{Field}
 use Rattle.json_body.specs.declared.fields.FieldFault.{FieldFault}
 use Rattle.json_body.specs.declared.fields.FieldFault.TheVariants.{Missing, WrongKind, Unknown, NoMemory}
-use Rattle.body_fields.specs.FieldRules.{FieldRule, Breaks, IsFirstAmong}
-use Rattle.command_codec.specs.BodyForms.{form_rules, with_fields}
-use Rattle.command_codec.specs.BodyObjects.{Reader}
-use Rattle.command_codec.specs.BodyMeaning.{table, entry_at, said_under}
-use Rattle.command_codec.specs.FirstCauses.{all_rules}
+use Rattle.body_fields.specs.declared.field_rules.AskedField.{AskedField}
+use Rattle.body_fields.specs.FieldRules.{FieldRule, Breaks, IsFirstAmong, rules_of}
 use Rattle.command_codec.specs.declared.body_forms.BodyForm.{BodyForm}
-use Rattle.command_codec.proofs.CauseTables.{Follows, Found, found}
+use Rattle.command_codec.specs.declared.body_kinds.BodyKind.{BodyKind}
+use Rattle.command_codec.specs.BodyForms.{fields_in}
+use Rattle.command_codec.specs.BodyKinds.{is_of_kind}
+use Rattle.command_codec.specs.BodyMeaning.{given, said_in, said_under, given_under}
+use Rattle.command_codec.specs.CommandForms.{Row, form_at, form_under, row_at}
+use Rattle.command_codec.specs.FormRules.{form_asks, row_asks}
+use Rattle.command_codec.proofs.CauseLaws.{row_follows}
+use Rattle.command_codec.proofs.SpelledLaws.{ended_ok}
 
--- What a form is: the rules at the content type, with their fields.
-abbrev pub IsForm : ℕ → List FieldRule × List Field → Type 0
-IsForm content form = Some form ≡ option_map with_fields (lookup (λ n. n == content) all_rules)
+-- What is asked at a content type, and which fields there may be.
+abbrev pub Asks : Type 0
+Asks = List (AskedField BodyKind) × List Field
 
-by_form : (P : Option Reader → Type 0) (content : ℕ) (form : List FieldRule × List Field) → IsForm content form
-    → ((reader : Reader) (rules : List FieldRule) → form ≡ with_fields rules → Follows reader rules → P (Some reader)) → P (entry_at content table)
-by_form P content form is k = by (entry_at content table) (lookup (λ n. n == content) all_rules) (found content) is
+-- What the code has of the form at a content type.
+abbrev pub IsForm : ℕ → Asks → Type 0
+IsForm content asks = Some asks ≡ option_map row_asks (row_at content)
+
+-- The first faults by what is asked.
+abbrev pub FirstBy : Asks → Data → FieldFault → Type 0
+FirstBy asks o f = IsFirstAmong (rules_of is_of_kind asks.0) asks.1 o f
+
+-- Where there is a form, there is a row with it.
+pub with_row : {P : Type 0} (content : ℕ) (asks : Asks) → IsForm content asks → ((r : Row) → row_at content ≡ Some r → asks ≡ row_asks r → P) → P
+with_row {P} content asks is k = by (row_at content) refl is
   where
-    by : (e : Option Reader) (l : Option (List FieldRule)) → Found e l → Some form ≡ option_map with_fields l → P e
-    by None None at is = absurd (cc)
-    by None (Some rules) at is = absurd at
-    by (Some reader) None at is = absurd at
-    by (Some reader) (Some rules) at is = k reader rules (same_Some form (with_fields rules) is) at
+    by : (at : Option Row) → row_at content ≡ at → Some asks ≡ option_map row_asks at → P
+    by None at is = absurd (cc)
+    by (Some r) at is = k r at (same_Some asks (row_asks r) is)
 
--- A first fault by the form is what the entry says.
-pub form_fault : (content : ℕ) (form : List FieldRule × List Field) (o : Data) (f : FieldFault) → IsForm content form → IsFirstAmong form.0 form.1 o f
-    → said_under (entry_at content table) o ≡ Err f
-form_fault content form o f is first = by_form (λ e. said_under e o ≡ Err f) content form is (λ reader rules same follows.
-    (follows o f).1 (subst (λ (p : List FieldRule × List Field). IsFirstAmong p.0 p.1 o f) same first))
+-- A first fault by the form is what the row says.
+pub form_fault : (content : ℕ) (asks : Asks) (o : Data) (f : FieldFault) → IsForm content asks → FirstBy asks o f → said_under (row_at content) o ≡ Err f
+form_fault content asks o f is first = with_row content asks is (λ r at same.
+    ap (λ w. said_under w o) at ∙ (row_follows r o f).1 (subst (λ a. FirstBy a o f) same first))
 
--- Where there is none, the entry says a command.
-pub form_kept : (content : ℕ) (form : List FieldRule × List Field) (o : Data) → IsForm content form → ((f : FieldFault) → IsFirstAmong form.0 form.1 o f → ⊥)
-    → IsOk (said_under (entry_at content table) o)
-form_kept content form o is none = by_form (λ e. IsOk (said_under e o)) content form is (λ reader rules same follows. by reader rules same follows (reader o) refl)
+-- Where there is none, the row says a command, the one that is made of the values.
+pub form_kept : (content : ℕ) (asks : Asks) (o : Data) → IsForm content asks → ((f : FieldFault) → FirstBy asks o f → ⊥)
+    → IsOk (said_under (row_at content) o) × (given_under (row_at content) o ≡ said_under (row_at content) o)
+form_kept content asks o is none = with_row content asks is (λ r at same.
+    subst (λ w. IsOk (said_under w o) × (given_under w o ≡ said_under w o)) (sym at) (kept r same))
   where
-    by : (reader : Reader) (rules : List FieldRule) → form ≡ with_fields rules → Follows reader rules → (r : Result Command FieldFault) → reader o ≡ r → IsOk r
-    by reader rules same follows (Ok c) says = refl
-    by reader rules same follows (Err f) says =
-        absurd (none f (subst (λ (p : List FieldRule × List Field). IsFirstAmong p.0 p.1 o f) (sym same) ((follows o f).0 says)))
+    kept : (r : Row) → asks ≡ row_asks r → IsOk (said_in r o) × (given r.form r.make o ≡ said_in r o)
+    kept r same = by (said_in r o) refl
+      where
+        by : (s : Result Command FieldFault) → said_in r o ≡ s → IsOk s × (given r.form r.make o ≡ s)
+        by (Ok c) at = (refl, (ended_ok (given r.form r.make o) (fields_in r.form) o c at).0)
+        by (Err f) at = absurd (none f (subst (λ a. FirstBy a o f) (sym same) ((row_follows r o f).0 at)))
 
 -- A first fault is no want of memory.
 pub not_memory : (rules : List FieldRule) (fields : List Field) (o : Data) (f : FieldFault) → IsFirstAmong rules fields o f → f ≡ NoMemory → ⊥
@@ -66,33 +77,31 @@ not_memory rules fields o f (inl h) e = broken h.breaks
     broken (inl b) = missing h.rule.of_field (sym b.told ∙ e)
     broken (inr b) = wrong h.rule.of_field (sym b.told ∙ e)
 
--- Where there is no form at a content type, there is no entry.
-pub no_entry : (content : ℕ) → None ≡ option_map with_fields (lookup (λ n. n == content) all_rules) → entry_at content table ≡ None
-no_entry content none = by (entry_at content table) (lookup (λ n. n == content) all_rules) (found content) none
+-- Where the code has no form, there is no row.
+pub no_row : (content : ℕ) → ◌≡◌ {A = Option Asks} None (option_map row_asks (row_at content)) → row_at content ≡ None
+no_row content is = by (row_at content) is
   where
-    by : (e : Option Reader) (l : Option (List FieldRule)) → Found e l → None ≡ option_map with_fields l → e ≡ None
-    by None l at is = refl
-    by (Some reader) None at is = absurd at
-    by (Some reader) (Some rules) at is = absurd (cc)
+    by : (at : Option Row) → ◌≡◌ {A = Option Asks} None (option_map row_asks at) → at ≡ None
+    by None is = refl
+    by (Some r) is = absurd (cc)
 
--- Where there is a form, there is an entry.
-pub with_entry : {P : Type 0} (content : ℕ) (form : List FieldRule × List Field) → IsForm content form → ((reader : Reader) → entry_at content table ≡ Some reader → P) → P
-with_entry {P} content form is k = by (entry_at content table) refl (by_form (λ e. IsSome e) content form is (λ reader rules same follows. refl))
-  where
-    by : (e : Option Reader) → entry_at content table ≡ e → IsSome e → P
-    by None at there = absurd (false≢true there)
-    by (Some reader) at there = k reader at
+-- The fields of a form are those at its content type; where there is none, there are no fields.
+pub form_fields : (content : ℕ) (asks : Asks) → IsForm content asks → asks.1 ≡ fields_in (form_at content)
+form_fields content asks is = with_row content asks is (λ r at same. ap (λ (a : Asks). a.1) same ∙ ap (λ w. fields_in (form_under w)) (sym at))
 
--- Whether the code has a form tells whether there is one.
-pub with_form : {P : Type 0} (content : ℕ) (form : Option BodyForm) → option_map form_rules form ≡ option_map with_fields (lookup (λ n. n == content) all_rules) → is_some form ≡ true
-    → ((rules : List FieldRule × List Field) → IsForm content rules → P) → P
+pub no_fields : (content : ℕ) → ◌≡◌ {A = Option Asks} None (option_map row_asks (row_at content)) → [] ≡ fields_in (form_at content)
+no_fields content is = ap (λ w. fields_in (form_under w)) (sym (no_row content is))
+
+-- Whether the code has a form tells whether there is a row.
+pub with_form : {P : Type 0} (content : ℕ) (form : Option BodyForm) → option_map form_asks form ≡ option_map row_asks (row_at content) → is_some form ≡ true
+    → ((r : Row) → row_at content ≡ Some r → P) → P
 with_form content None is there k = absurd (false≢true there)
-with_form content (Some form) is there k = k (form_rules form) is
+with_form content (Some form) is there k = with_row content (form_asks form) is (λ r at same. k r at)
 
-pub without_form : (content : ℕ) (form : Option BodyForm) → option_map form_rules form ≡ option_map with_fields (lookup (λ n. n == content) all_rules) → is_some form ≡ false
-    → entry_at content table ≡ None
-without_form content None is absent = no_entry content is
+pub without_form : (content : ℕ) (form : Option BodyForm) → option_map form_asks form ≡ option_map row_asks (row_at content) → is_some form ≡ false
+    → row_at content ≡ None
 without_form content (Some form) is absent = absurd (false≢true (sym absent))
+without_form content None is absent = no_row content is
 
 -- A content type that is one of two next to each other.
 pub one_of_two : (n a : ℕ) → a ≤ n → n < a + 2 → (n ≡ a) ⊎ (n ≡ a + 1)

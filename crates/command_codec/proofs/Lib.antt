@@ -1,16 +1,8 @@
 mod NameListLaws
 mod SideLaws
-mod ReadingLaws
-mod TableLaws
-mod EntityLaws
-mod PolicyLaws
-mod ShowLaws
-mod InterceptLaws
-mod LinkLaws
-mod TerminatorLaws
-mod CircuitLaws
-pub mod SpelledLaws
+pub mod KindLaws
 mod FirstCauseLaws
-mod CauseTables
+mod CauseLaws
+pub mod SpelledLaws
 mod FormLaws
 mod ValueLaws

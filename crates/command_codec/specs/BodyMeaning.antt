@@ -1,56 +1,69 @@
--- The command that a body spells under a content type, and the first cause why it spells none
--- (docs/FORMATS.md, "Commands", "Bodies").
-use Rattle.std.specs.Prelude.{ℕ, ◌==◌, if◌then◌else◌, List, [], ◌∷◌, ◌++◌, None, Some, Ok, Err}
+-- The command that a body spells under a content type, and the first cause why it spells none: its fields are gone through in their
+-- order, up to the first that says nothing of its kind, and another key counts behind them (docs/FORMATS.md, "Commands", "Bodies").
+use Rattle.std.specs.Prelude.{ℕ, ◌==◌, if◌then◌else◌, List, [], ◌∷◌, None, Some, Ok, Err}
 use Rattle.std.specs.declared.option.Option.{Option}
 use Rattle.std.specs.declared.result.Result.{Result}
+use Rattle.serde_json.specs.Data.{Data}
 use Rattle.ctrl_model.specs.declared.commands.Command.{Command}
 use Rattle.ctrl_model.specs.declared.commands.Command.TheVariants as command
-use Rattle.serde_json.specs.Data.{Data}
+use Rattle.ctrl_model.specs.declared.refusals.Field.{Field}
 use Rattle.json_body.specs.declared.fields.FieldFault.{FieldFault}
 use Rattle.json_body.specs.declared.fields.FieldFault.TheVariants.{Unknown}
+use Rattle.json_body.specs.FieldKinds.{required, optional, finished}
+use Rattle.command_codec.specs.declared.body_kinds.BodyKind.{BodyKind}
 use Rattle.command_codec.specs.declared.reading.CodecFault.{CodecFault}
 use Rattle.command_codec.specs.declared.reading.CodecFault.TheVariants.{UnsupportedType}
-use Rattle.command_codec.specs.BodyObjects.{Reader, as_body, object_of_body, said_by}
-use Rattle.command_codec.specs.EntityBodies.{entity_table}
-use Rattle.command_codec.specs.PolicyBodies.{policy_table}
-use Rattle.command_codec.specs.LinkBodies.{link_table}
-use Rattle.command_codec.specs.TerminatorBodies.{terminator_table}
-use Rattle.command_codec.specs.CircuitBodies.{circuit_table}
-use Rattle.command_codec.specs.ShowBodies.{show_table}
-use Rattle.command_codec.specs.InterceptBodies.{intercept_table}
+use Rattle.command_codec.specs.BodyKinds.{Said, as_kind}
+use Rattle.command_codec.specs.BodyForms.{BodyField, Form, Makes, fields_in}
+use Rattle.command_codec.specs.BodyObjects.{◌>>=◌, as_body, object_of_body, said_by}
+use Rattle.command_codec.specs.CommandForms.{Row, row_at}
 
--- The content types whose body is an object, each with what such an object spells.
-abbrev pub table : List (ℕ × Reader)
-table = entity_table ++ (policy_table ++ (link_table ++ (terminator_table ++ (circuit_table ++ (show_table ++ intercept_table)))))
+-- What an object says of a field of a kind, by the value that the field has where it is left out, if it may be.
+abbrev pub said_of : (kind : BodyKind) → Option (Said kind) → Field → Data → Result (Said kind) FieldFault
+said_of kind None of_field o = required (as_kind kind) of_field o
+said_of kind (Some x) of_field o = optional (as_kind kind) x of_field o
 
--- What a table has at a content type.
-abbrev pub entry_at : ℕ → List (ℕ × Reader) → Option Reader
-entry_at content [] = None
-entry_at content (x ∷ xs) = if x.0 == content then Some x.1 else entry_at content xs
+-- What an object says of a field.
+abbrev pub field_said : (f : BodyField) → Data → Result (Said f.kind) FieldFault
+field_said f o = said_of f.kind f.otherwise f.of_field o
 
--- What a body says under an entry of a table, if there is one.
-abbrev pub meaning_under : Option Reader → List ℕ → Result Command CodecFault
+-- The command that is made of what an object says of each field of a form.
+abbrev pub given : (form : Form) → Makes form → Data → Result Command FieldFault
+given [] c o = Ok c
+given (f ∷ fs) make o = field_said f o >>= λ x. given fs (make x) o
+
+-- A command, where an object has no keys but the words of these fields.
+abbrev pub ended : List Field → Data → Command → Result Command FieldFault
+ended fields o c = finished fields o >>= λ end. Ok c
+
+-- The command that an object spells which is to have the form of a row.
+abbrev pub said_in : Row → Data → Result Command FieldFault
+said_in r o = given r.form r.make o >>= ended (fields_in r.form) o
+
+-- What a body says under a row, if there is one.
+abbrev pub meaning_under : Option Row → List ℕ → Result Command CodecFault
 meaning_under None body = Err UnsupportedType
-meaning_under (Some entry) body = said_by entry (object_of_body body)
-
--- What a body says under a content type of a table.
-abbrev pub meaning_in : List (ℕ × Reader) → ℕ → List ℕ → Result Command CodecFault
-meaning_in rows content body = meaning_under (entry_at content rows) body
+meaning_under (Some r) body = said_by (said_in r) (object_of_body body)
 
 -- The command that a body spells under a content type, or the first cause why it spells none. The body of Hello is not read.
 abbrev pub meaning : ℕ → List ℕ → Result Command CodecFault
-meaning content body = if content == 0 then Ok command.Hello else meaning_in table content body
+meaning content body = if content == 0 then Ok command.Hello else meaning_under (row_at content) body
 
--- What an object says under an entry of a table; where there is none, it has no key that is known.
-abbrev pub said_under : Option Reader → Data → Result Command FieldFault
+-- What an object says under a row; where there is none, it has no key that is known.
+abbrev pub said_under : Option Row → Data → Result Command FieldFault
 said_under None o = Err Unknown
-said_under (Some entry) o = entry o
+said_under (Some r) o = said_in r o
 
--- What a JSON value says under an entry of a table, if there is one.
-abbrev pub value_under : Option Reader → Data → Result Command CodecFault
+-- The same without the other keys.
+abbrev pub given_under : Option Row → Data → Result Command FieldFault
+given_under None o = Err Unknown
+given_under (Some r) o = given r.form r.make o
+
+-- What a JSON value says under a row, if there is one.
+abbrev pub value_under : Option Row → Data → Result Command CodecFault
 value_under None d = Err UnsupportedType
-value_under (Some entry) d = said_by entry (as_body d)
+value_under (Some r) d = said_by (said_in r) (as_body d)
 
 -- The command that the body spells which is this JSON value, or the first cause why it spells none.
 abbrev pub value_meaning : ℕ → Data → Result Command CodecFault
-value_meaning content d = if content == 0 then Ok command.Hello else value_under (entry_at content table) d
+value_meaning content d = if content == 0 then Ok command.Hello else value_under (row_at content) d

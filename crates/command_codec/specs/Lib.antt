@@ -3,13 +3,8 @@ pub mod RoleLists
 pub mod BodyKinds
 pub mod BodyForms
 pub mod BodyObjects
-pub mod EntityBodies
-pub mod PolicyBodies
-pub mod ShowBodies
-pub mod InterceptBodies
-pub mod LinkBodies
-pub mod TerminatorBodies
-pub mod CircuitBodies
+pub mod CommandForms
+pub mod FormRules
 pub mod BodyMeaning
 pub mod ContentTypes
 pub mod SpelledBodies

@@ -1,7 +1,7 @@
-ghost use Rattle.std.specs.Prelude.{◌≡◌, ◌==◌, option_map};
-ghost use Rattle.std.specs.Map.{lookup};
-ghost use Rattle.command_codec.specs.BodyForms.{form_rules, with_fields};
-ghost use Rattle.command_codec.specs.FirstCauses.{all_rules, entity_rules, intercept_rules, network_rules, policy_rules, route_rules, show_rules, terminator_rules};
+ghost use Rattle.std.specs.Prelude.{◌≡◌, option_map};
+ghost use Rattle.command_codec.specs.CommandForms.{entity_rows, policy_rows, link_rows, terminator_rows, circuit_rows, show_rows, intercept_rows, form_at, row_at, row_in};
+ghost use Rattle.command_codec.specs.BodyForms.{fields_in};
+ghost use Rattle.command_codec.specs.FormRules.{form_asks, row_asks};
 
 use crate::body_kinds::BodyKind;
 use crate::content_types::{
@@ -38,99 +38,6 @@ const TOTAL: BodyKind = BodyKind::Number(0, u32::MAX);
 const LATENCY: BodyKind = BodyKind::Number(0, MOST_LATENCY);
 
 const PORT: BodyKind = BodyKind::Number(1, MOST_PORT);
-
-pub(crate) const ENTITY_FIELDS: [Field; 2] = [Field::Name, Field::Attributes];
-
-pub(crate) const ROUTER_FIELDS: [Field; 4] = [
-    Field::Name,
-    Field::Attributes,
-    Field::Cost,
-    Field::NoTraversal,
-];
-
-pub(crate) const SERVICE_POLICY_FIELDS: [Field; 5] = [
-    Field::Name,
-    Field::PolicyType,
-    Field::Semantic,
-    Field::IdentityRoles,
-    Field::ServiceRoles,
-];
-
-pub(crate) const EDGE_ROUTER_POLICY_FIELDS: [Field; 4] = [
-    Field::Name,
-    Field::Semantic,
-    Field::IdentityRoles,
-    Field::RouterRoles,
-];
-
-pub(crate) const SERVICE_EDGE_ROUTER_POLICY_FIELDS: [Field; 4] = [
-    Field::Name,
-    Field::Semantic,
-    Field::ServiceRoles,
-    Field::RouterRoles,
-];
-
-pub(crate) const LINK_FIELDS: [Field; 6] = [
-    Field::Name,
-    Field::A,
-    Field::B,
-    Field::Cost,
-    Field::LatencyA,
-    Field::LatencyB,
-];
-
-pub(crate) const LINK_COST_FIELDS: [Field; 2] = [Field::Link, Field::Cost];
-
-pub(crate) const LATENCY_FIELDS: [Field; 3] = [Field::Link, Field::Router, Field::Latency];
-
-pub(crate) const STATE_FIELDS: [Field; 3] = [Field::Link, Field::Router, Field::Up];
-
-pub(crate) const TERMINATOR_FIELDS: [Field; 6] = [
-    Field::Service,
-    Field::Router,
-    Field::Instance,
-    Field::Host,
-    Field::Cost,
-    Field::Precedence,
-];
-
-pub(crate) const TERMINATOR_UPDATE_FIELDS: [Field; 3] = [Field::No, Field::Cost, Field::Precedence];
-
-pub(crate) const CIRCUIT_FIELDS: [Field; 4] = [
-    Field::Identity,
-    Field::Service,
-    Field::Ingress,
-    Field::Instance,
-];
-
-pub(crate) const ROUTE_FIELDS: [Field; 10] = [
-    Field::Identity,
-    Field::Service,
-    Field::Ingress,
-    Field::Instance,
-    Field::Chosen,
-    Field::Links,
-    Field::Potentials,
-    Field::Routers,
-    Field::Terminator,
-    Field::Total,
-];
-
-pub(crate) const INTERCEPT_FIELDS: [Field; 4] = [
-    Field::Service,
-    Field::Protocols,
-    Field::Addresses,
-    Field::Ports,
-];
-
-pub(crate) const PICK_FIELDS: [Field; 4] = [
-    Field::Identity,
-    Field::Protocol,
-    Field::Address,
-    Field::Port,
-];
-
-pub(crate) const CLASH_FIELDS: [Field; 2] = [Field::Identity, Field::Service];
 
 // One name.
 const NAME: BodyForm = BodyForm {
@@ -174,7 +81,7 @@ const MADE: BodyForm = BodyForm {
         Needed(Field::Name, BodyKind::Name),
         Optional(Field::Attributes, BodyKind::Attributes),
     ],
-    allowed: &ENTITY_FIELDS,
+    allowed: &[Field::Name, Field::Attributes],
 };
 
 const UPDATED: BodyForm = BodyForm {
@@ -182,7 +89,7 @@ const UPDATED: BodyForm = BodyForm {
         Needed(Field::Name, BodyKind::Name),
         Needed(Field::Attributes, BodyKind::Attributes),
     ],
-    allowed: &ENTITY_FIELDS,
+    allowed: &[Field::Name, Field::Attributes],
 };
 
 // A router that is made, and one that is updated.
@@ -193,7 +100,12 @@ const MADE_ROUTER: BodyForm = BodyForm {
         Optional(Field::Cost, COST),
         Optional(Field::NoTraversal, BodyKind::Flag),
     ],
-    allowed: &ROUTER_FIELDS,
+    allowed: &[
+        Field::Name,
+        Field::Attributes,
+        Field::Cost,
+        Field::NoTraversal,
+    ],
 };
 
 const UPDATED_ROUTER: BodyForm = BodyForm {
@@ -203,7 +115,12 @@ const UPDATED_ROUTER: BodyForm = BodyForm {
         Needed(Field::Cost, COST),
         Needed(Field::NoTraversal, BodyKind::Flag),
     ],
-    allowed: &ROUTER_FIELDS,
+    allowed: &[
+        Field::Name,
+        Field::Attributes,
+        Field::Cost,
+        Field::NoTraversal,
+    ],
 };
 
 // A policy of each kind.
@@ -215,7 +132,13 @@ const SERVICE_POLICY: BodyForm = BodyForm {
         Needed(Field::IdentityRoles, BodyKind::Side),
         Needed(Field::ServiceRoles, BodyKind::Side),
     ],
-    allowed: &SERVICE_POLICY_FIELDS,
+    allowed: &[
+        Field::Name,
+        Field::PolicyType,
+        Field::Semantic,
+        Field::IdentityRoles,
+        Field::ServiceRoles,
+    ],
 };
 
 const EDGE_ROUTER_POLICY: BodyForm = BodyForm {
@@ -225,7 +148,12 @@ const EDGE_ROUTER_POLICY: BodyForm = BodyForm {
         Needed(Field::IdentityRoles, BodyKind::Side),
         Needed(Field::RouterRoles, BodyKind::Side),
     ],
-    allowed: &EDGE_ROUTER_POLICY_FIELDS,
+    allowed: &[
+        Field::Name,
+        Field::Semantic,
+        Field::IdentityRoles,
+        Field::RouterRoles,
+    ],
 };
 
 const SERVICE_EDGE_ROUTER_POLICY: BodyForm = BodyForm {
@@ -235,7 +163,12 @@ const SERVICE_EDGE_ROUTER_POLICY: BodyForm = BodyForm {
         Needed(Field::ServiceRoles, BodyKind::Side),
         Needed(Field::RouterRoles, BodyKind::Side),
     ],
-    allowed: &SERVICE_EDGE_ROUTER_POLICY_FIELDS,
+    allowed: &[
+        Field::Name,
+        Field::Semantic,
+        Field::ServiceRoles,
+        Field::RouterRoles,
+    ],
 };
 
 // A link that is made, and what is set or reported of one.
@@ -248,7 +181,14 @@ const MADE_LINK: BodyForm = BodyForm {
         Optional(Field::LatencyA, LATENCY),
         Optional(Field::LatencyB, LATENCY),
     ],
-    allowed: &LINK_FIELDS,
+    allowed: &[
+        Field::Name,
+        Field::A,
+        Field::B,
+        Field::Cost,
+        Field::LatencyA,
+        Field::LatencyB,
+    ],
 };
 
 const COST_OF_LINK: BodyForm = BodyForm {
@@ -256,7 +196,7 @@ const COST_OF_LINK: BodyForm = BodyForm {
         Needed(Field::Link, BodyKind::Name),
         Needed(Field::Cost, LINK_COST),
     ],
-    allowed: &LINK_COST_FIELDS,
+    allowed: &[Field::Link, Field::Cost],
 };
 
 const REPORTED_LATENCY: BodyForm = BodyForm {
@@ -265,7 +205,7 @@ const REPORTED_LATENCY: BodyForm = BodyForm {
         Needed(Field::Router, BodyKind::Name),
         Needed(Field::Latency, LATENCY),
     ],
-    allowed: &LATENCY_FIELDS,
+    allowed: &[Field::Link, Field::Router, Field::Latency],
 };
 
 const REPORTED_STATE: BodyForm = BodyForm {
@@ -274,7 +214,7 @@ const REPORTED_STATE: BodyForm = BodyForm {
         Needed(Field::Router, BodyKind::Name),
         Needed(Field::Up, BodyKind::Flag),
     ],
-    allowed: &STATE_FIELDS,
+    allowed: &[Field::Link, Field::Router, Field::Up],
 };
 
 // The least router cost.
@@ -293,7 +233,14 @@ const MADE_TERMINATOR: BodyForm = BodyForm {
         Optional(Field::Cost, COST),
         Optional(Field::Precedence, BodyKind::Precedence),
     ],
-    allowed: &TERMINATOR_FIELDS,
+    allowed: &[
+        Field::Service,
+        Field::Router,
+        Field::Instance,
+        Field::Host,
+        Field::Cost,
+        Field::Precedence,
+    ],
 };
 
 const UPDATED_TERMINATOR: BodyForm = BodyForm {
@@ -302,7 +249,7 @@ const UPDATED_TERMINATOR: BodyForm = BodyForm {
         Needed(Field::Cost, COST),
         Needed(Field::Precedence, BodyKind::Precedence),
     ],
-    allowed: &TERMINATOR_UPDATE_FIELDS,
+    allowed: &[Field::No, Field::Cost, Field::Precedence],
 };
 
 // A circuit that is asked for, and a route that is claimed.
@@ -313,7 +260,12 @@ const ASKED_CIRCUIT: BodyForm = BodyForm {
         Optional(Field::Ingress, BodyKind::NameOrNone),
         Optional(Field::Instance, BodyKind::Instance),
     ],
-    allowed: &CIRCUIT_FIELDS,
+    allowed: &[
+        Field::Identity,
+        Field::Service,
+        Field::Ingress,
+        Field::Instance,
+    ],
 };
 
 const CLAIMED_ROUTE: BodyForm = BodyForm {
@@ -329,7 +281,18 @@ const CLAIMED_ROUTE: BodyForm = BodyForm {
         Needed(Field::Terminator, NUMBER_OF_RECORD),
         Needed(Field::Total, TOTAL),
     ],
-    allowed: &ROUTE_FIELDS,
+    allowed: &[
+        Field::Identity,
+        Field::Service,
+        Field::Ingress,
+        Field::Instance,
+        Field::Chosen,
+        Field::Links,
+        Field::Potentials,
+        Field::Routers,
+        Field::Terminator,
+        Field::Total,
+    ],
 };
 
 // An intercept that is set, a destination whose service is picked, and a service whose clashes are listed.
@@ -340,7 +303,12 @@ const CLAIM: BodyForm = BodyForm {
         Needed(Field::Addresses, BodyKind::Addresses),
         Needed(Field::Ports, BodyKind::Ranges),
     ],
-    allowed: &INTERCEPT_FIELDS,
+    allowed: &[
+        Field::Service,
+        Field::Protocols,
+        Field::Addresses,
+        Field::Ports,
+    ],
 };
 
 const DESTINATION: BodyForm = BodyForm {
@@ -350,7 +318,12 @@ const DESTINATION: BodyForm = BodyForm {
         Needed(Field::Address, BodyKind::Destination),
         Needed(Field::Port, PORT),
     ],
-    allowed: &PICK_FIELDS,
+    allowed: &[
+        Field::Identity,
+        Field::Protocol,
+        Field::Address,
+        Field::Port,
+    ],
 };
 
 const CLASHES: BodyForm = BodyForm {
@@ -358,12 +331,12 @@ const CLASHES: BodyForm = BodyForm {
         Needed(Field::Identity, BodyKind::Name),
         Needed(Field::Service, BodyKind::Name),
     ],
-    allowed: &CLASH_FIELDS,
+    allowed: &[Field::Identity, Field::Service],
 };
 
 // The forms of the content types of identities, services and routers.
 fn entity_form(content: u32) -> Option<BodyForm>
-    ensures { option_map form_rules result ≡ option_map with_fields (lookup (λ n. n == content) entity_rules) }
+    ensures { option_map form_asks result ≡ option_map row_asks (row_in entity_rows content) }
 {
     match content {
         CREATE_IDENTITY | CREATE_SERVICE => Some(MADE),
@@ -378,7 +351,7 @@ fn entity_form(content: u32) -> Option<BodyForm>
 
 // Those of policies.
 fn policy_form(content: u32) -> Option<BodyForm>
-    ensures { option_map form_rules result ≡ option_map with_fields (lookup (λ n. n == content) policy_rules) }
+    ensures { option_map form_asks result ≡ option_map row_asks (row_in policy_rows content) }
 {
     match content {
         CREATE_SERVICE_POLICY | UPDATE_SERVICE_POLICY => Some(SERVICE_POLICY),
@@ -394,7 +367,7 @@ fn policy_form(content: u32) -> Option<BodyForm>
 
 // Those of links, and of the least router cost.
 fn link_form(content: u32) -> Option<BodyForm>
-    ensures { option_map form_rules result ≡ option_map with_fields (lookup (λ n. n == content) network_rules) }
+    ensures { option_map form_asks result ≡ option_map row_asks (row_in link_rows content) }
 {
     match content {
         CREATE_LINK => Some(MADE_LINK),
@@ -409,7 +382,7 @@ fn link_form(content: u32) -> Option<BodyForm>
 
 // Those of terminators.
 fn terminator_form(content: u32) -> Option<BodyForm>
-    ensures { option_map form_rules result ≡ option_map with_fields (lookup (λ n. n == content) terminator_rules) }
+    ensures { option_map form_asks result ≡ option_map row_asks (row_in terminator_rows content) }
 {
     match content {
         CREATE_TERMINATOR => Some(MADE_TERMINATOR),
@@ -421,7 +394,7 @@ fn terminator_form(content: u32) -> Option<BodyForm>
 
 // Those of circuits and routes.
 fn circuit_form(content: u32) -> Option<BodyForm>
-    ensures { option_map form_rules result ≡ option_map with_fields (lookup (λ n. n == content) route_rules) }
+    ensures { option_map form_asks result ≡ option_map row_asks (row_in circuit_rows content) }
 {
     match content {
         CREATE_CIRCUIT | EXPLAIN => Some(ASKED_CIRCUIT),
@@ -433,7 +406,7 @@ fn circuit_form(content: u32) -> Option<BodyForm>
 
 // Those of what is shown, and of Compact.
 fn show_form(content: u32) -> Option<BodyForm>
-    ensures { option_map form_rules result ≡ option_map with_fields (lookup (λ n. n == content) show_rules) }
+    ensures { option_map form_asks result ≡ option_map row_asks (row_in show_rows content) }
 {
     match content {
         SHOW_GRANTS | LIST_SERVICES => Some(IDENTITY_NAME),
@@ -444,7 +417,7 @@ fn show_form(content: u32) -> Option<BodyForm>
 
 // Those of intercepts.
 fn intercept_form(content: u32) -> Option<BodyForm>
-    ensures { option_map form_rules result ≡ option_map with_fields (lookup (λ n. n == content) intercept_rules) }
+    ensures { option_map form_asks result ≡ option_map row_asks (row_in intercept_rows content) }
 {
     match content {
         SET_INTERCEPT => Some(CLAIM),
@@ -457,7 +430,7 @@ fn intercept_form(content: u32) -> Option<BodyForm>
 
 // What the command asks whose content type it is, if it is one but that of Hello.
 pub(crate) fn form_of(content: u32) -> Option<BodyForm>
-    ensures { option_map form_rules result ≡ option_map with_fields (lookup (λ n. n == content) all_rules) }
+    ensures { option_map form_asks result ≡ option_map row_asks (row_at content) }
 {
     match content {
         CREATE_IDENTITY..=DISCONNECT_ROUTER => entity_form(content),
@@ -468,5 +441,16 @@ pub(crate) fn form_of(content: u32) -> Option<BodyForm>
         SHOW_GRANTS..=SHOW_COUNTS | COMPACT => show_form(content),
         SET_INTERCEPT..=LIST_CLASHES => intercept_form(content),
         _ => None,
+    }
+}
+
+/// The fields of the bodies under a content type, in the order in which the first cause counts: none of Hello, nor where no command
+/// has the type.
+pub fn fields_of(content: u32) -> &'static [Field]
+    ensures { result.now ≡ fields_in (form_at content) }
+{
+    match form_of(content) {
+        Some(form) => form.allowed,
+        None => &[],
     }
 }

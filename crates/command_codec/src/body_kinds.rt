@@ -11,29 +11,30 @@ use ctrl_model::{MOST_ENTRIES, MOST_ROUTERS, Name, Reach};
 use json_body::{as_number_in, is_name};
 use serde_json::Value;
 
-// The kinds of the fields of bodies.
+/// The kinds of the fields of bodies (docs/FORMATS.md, "Commands").
 #[derive(Clone, Copy)]
-pub(crate) enum BodyKind {
+pub enum BodyKind {
     Name,
-    // A name that may be left out.
+    /// A name that may be left out.
     NameOrNone,
     Attributes,
     Side,
+    /// A whole number from the first to the second, both included.
     Number(u32, u32),
     Flag,
     Relation,
     Semantic,
     Precedence,
     Instance,
-    // The numbers of records, at most so many.
+    /// The numbers of records, at most so many.
     Numbers(usize),
     Potentials,
     Protocol,
     Protocols,
-    // An address that is one place.
+    /// An address that is one place.
     Destination,
     Addresses,
-    // Ranges of ports.
+    /// Ranges of ports.
     Ranges,
 }
 

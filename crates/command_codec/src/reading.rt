@@ -1,27 +1,15 @@
-ghost use Rattle.std.specs.Prelude.{◌≡◌, ◌≢◌, ◌↔◌, ◌<◌, ◌==◌, IfOk, IfErr, IsOk, IsErrOf, length, true, false, Some, Ok, Err, option_map};
-ghost use Rattle.std.specs.Map.{lookup};
+ghost use Rattle.std.specs.Prelude.{◌≡◌, ◌≢◌, ◌↔◌, ◌<◌, IfOk, IfErr, IsOk, IsErrOf, length, true, false, Some, Ok, Err, option_map};
 ghost use Rattle.serde_json.specs.View.{view};
 ghost use Rattle.ctrl_model.specs.CommandForm.{is_spelled};
 ghost use Rattle.json_body.specs.FieldKinds.{object_of};
 ghost use Rattle.body_fields.specs.ReadResults.{Gives};
-ghost use Rattle.command_codec.specs.BodyForms.{form_rules, with_fields};
-ghost use Rattle.command_codec.specs.BodyMeaning.{entry_at, meaning, said_under, table, value_meaning};
-ghost use Rattle.command_codec.specs.FirstCauses.{all_rules};
+ghost use Rattle.command_codec.specs.BodyMeaning.{meaning, said_under, value_meaning};
+ghost use Rattle.command_codec.specs.CommandForms.{row_at};
+ghost use Rattle.command_codec.specs.FormRules.{form_asks, row_asks};
 
 use crate::body_forms::{BodyForm, form_of};
-use crate::circuit_bodies::circuit_command;
-use crate::content_types::{
-    COMPACT, CREATE_CIRCUIT, CREATE_IDENTITY, CREATE_LINK, CREATE_ROUTER, CREATE_SERVICE_POLICY,
-    CREATE_TERMINATOR, DELETE_SERVICE, DELETE_SERVICE_EDGE_ROUTER_POLICY, DELETE_TERMINATOR,
-    DISCONNECT_ROUTER, HELLO, SET_LEAST_ROUTER_COST, SHOW_CIRCUIT, SHOW_COUNTS, SHOW_GRANTS,
-    VERIFY_ROUTE,
-};
-use crate::entity_bodies::{entity_command, router_command};
-use crate::intercept_bodies::intercept_command;
-use crate::link_bodies::link_command;
-use crate::policy_bodies::policy_command;
-use crate::show_bodies::show_command;
-use crate::terminator_bodies::terminator_command;
+use crate::command_values::command_of;
+use crate::content_types::HELLO;
 use body_fields::{keep_rules, value_in};
 use ctrl_model::{Command, Field, Reason};
 use json_body::{FieldFault, Fields};
@@ -72,38 +60,19 @@ impl From<FieldFault> for CodecFault {
     }
 }
 
-// The command that an object spells under a content type.
-fn command_in(alloc: Global, content: u32, fields: &Fields) -> Result<Command, FieldFault>
-    ensures { Gives FieldFault.NoMemory (λ c. c) result (said_under (entry_at content table) (object_of fields.now)) }
-{
-    match content {
-        CREATE_IDENTITY..=DELETE_SERVICE => entity_command(alloc, content, fields),
-        CREATE_ROUTER..=DISCONNECT_ROUTER => router_command(alloc, content, fields),
-        CREATE_SERVICE_POLICY..=DELETE_SERVICE_EDGE_ROUTER_POLICY => {
-            policy_command(alloc, content, fields)
-        }
-        CREATE_LINK..=SET_LEAST_ROUTER_COST => link_command(alloc, content, fields),
-        CREATE_TERMINATOR..=DELETE_TERMINATOR => terminator_command(alloc, content, fields),
-        CREATE_CIRCUIT..=VERIFY_ROUTE | SHOW_CIRCUIT => circuit_command(alloc, content, fields),
-        SHOW_GRANTS..=SHOW_COUNTS | COMPACT => show_command(alloc, content, fields),
-        // What is left is a command on intercepts, or none.
-        _ => intercept_command(alloc, content, fields),
-    }
-}
-
-// The same, judged by the form of its content type before memory is asked.
+// The command that an object spells, judged by the form of its content type before memory is asked.
 fn judged_command(
     alloc: Global,
     content: u32,
     form: BodyForm,
     fields: &Fields,
 ) -> Result<Command, FieldFault>
-    requires { Some (form_rules form) ≡ option_map with_fields (lookup (λ n. n == content) all_rules) }
-    ensures given { Gives FieldFault.NoMemory (λ c. c) result (said_under (entry_at content table) (object_of fields.now)) }
-    ensures memory { IsErrOf result FieldFault.NoMemory → IsOk (said_under (entry_at content table) (object_of fields.now)) }
+    requires { Some (form_asks form) ≡ option_map row_asks (row_at content) }
+    ensures given { Gives FieldFault.NoMemory (λ c. c) result (said_under (row_at content) (object_of fields.now)) }
+    ensures memory { IsErrOf result FieldFault.NoMemory → IsOk (said_under (row_at content) (object_of fields.now)) }
 {
     keep_rules(form.rules, form.allowed, fields)?;
-    command_in(alloc, content, fields)
+    command_of(alloc, content, fields)
 }
 
 // The command that the body spells which is a JSON value.

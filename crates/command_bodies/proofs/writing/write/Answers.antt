@@ -12,5 +12,5 @@ returns c =
     let other : (content_of command == 0) ≡ false = other_than_hello command c.in_default.not-Hello in
     record {
       body = IfOk-weaker c.object_bytes.result _ _ (λ b e. e ∙ sym (ap (λ t. cond t [] (compact_text (body_object command))) other)) c.object_bytes.ensures.text;
-      reads_back = IfOk-weaker c.object_bytes.result _ _ (λ b e. means_back command c.requires other b e) c.object_bytes.ensures.reads;
+      reads_back = IfOk-weaker c.object_bytes.result _ _ (λ b e. means_back command c.requires c.in_default.not-Hello b e) c.object_bytes.ensures.reads;
     }

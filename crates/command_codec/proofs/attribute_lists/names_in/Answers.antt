@@ -1,4 +1,4 @@
-use Rattle.std.proofs.Common.{◌≡◌, Some, option_map, sym, ap, ◌∙◌}
+use Rattle.std.proofs.Common.{Some, option_map, sym, ap, ◌∙◌}
 use Rattle.serde_json.specs.View.{items_view}
 use Rattle.json_body.specs.FieldKinds.{as_name}
 use Rattle.body_fields.specs.ItemLists.{each_of}

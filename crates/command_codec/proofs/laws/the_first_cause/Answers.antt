@@ -1,4 +1,4 @@
-use Rattle.command_codec.proofs.CauseTables.{first_cause, never_memory}
+use Rattle.command_codec.proofs.CauseLaws.{first_cause, never_memory}
 use Rattle.command_codec.proofs.laws.the_first_cause.Goals as goal
 
 pub returns-clause-first : goal.returns-clause-first

@@ -23,8 +23,8 @@ returns-in_err-value-clause-fault c =
     let p = err_from_is_err_and c.from_residual.result c.from_residual.ensures.1 in
     rw (p.1, p.2) (λ other.
     let told = c.in_err-value.ensures.fault (λ wanting. other (ap cause_of wanting)) in
-    with_form c.args.content c.form_of.result c.form_of.ensures there (λ form is.
-    said_in_vain c.args.content form c.args.body.now c.if-content-eq-HELLO.false is told.1 ∙ ap (λ f. Err (cause_of f)) (sym told.0)))
+    with_form c.args.content c.form_of.result c.form_of.ensures there (λ r at.
+    said_in_vain c.args.content r c.args.body.now c.if-content-eq-HELLO.false at told.1 ∙ ap (λ f. Err (cause_of f)) (sym told.0)))
 
 pub returns-in_err-value-clause-unsupported : goal.returns-in_err-value-clause-unsupported
 returns-in_err-value-clause-unsupported c =
@@ -32,8 +32,8 @@ returns-in_err-value-clause-unsupported c =
     let p = err_from_is_err_and c.from_residual.result c.from_residual.ensures.1 in
     rw (p.1, p.2) (
       λ e. absurd (cause_supported c.in_err-value.field-0.0 e),
-      λ e. with_form c.args.content c.form_of.result c.form_of.ensures there (λ form is.
-          absurd (not_supported c.args.content form c.args.body.now c.if-content-eq-HELLO.false is e)),
+      λ e. with_form c.args.content c.form_of.result c.form_of.ensures there (λ r at.
+          absurd (not_supported c.args.content r c.args.body.now c.if-content-eq-HELLO.false at e)),
     )
 
 pub returns-in_err-value-clause-memory : goal.returns-in_err-value-clause-memory
@@ -56,8 +56,8 @@ returns-clause-spelled c =
 pub returns-clause-unsupported : goal.returns-clause-unsupported
 returns-clause-unsupported c =
     let there : is_some c.form_of.result ≡ true = c.is_none.ensures ∙ ap not c.if-is_none.false in
-    with_form c.args.content c.form_of.result c.form_of.ensures there (λ form is.
-    given_supported c.args.content form c.args.body.now (view c.in_ok-value.value) c.read_value-command.result c.if-content-eq-HELLO.false is c.in_ok-value.ensures.value
+    with_form c.args.content c.form_of.result c.form_of.ensures there (λ r at.
+    given_supported c.args.content r c.args.body.now (view c.in_ok-value.value) c.read_value-command.result c.if-content-eq-HELLO.false at c.in_ok-value.ensures.value
     c.read_value-command.ensures.fault)
 
 pub returns-clause-memory : goal.returns-clause-memory

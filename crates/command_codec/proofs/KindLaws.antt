@@ -1,0 +1,198 @@
+-- What values say keeps the kinds, the ranges and the lengths of fields, and the commands that are made of such values are those
+-- which some body spells.
+use Rattle.std.proofs.Common.{◌≡◌, ℕ, ◌==◌, nat_le, Bool, true, false, cond, ◌&&◌, ◌||◌, List, [], ◌∷◌, ◌++◌, length, codes, bytes_eq, Option, Some, None, refl, sym, ap, subst, eqb-true, arith, le-leb}
+use Rattle.std.specs.List.{AllByRecursion, list_all}
+use Rattle.std.proofs.lemmas.Bool.{and_from, and_parts}
+use Rattle.std.proofs.lemmas.Option.{cond_some, option_and_then_some, same_Some}
+use Rattle.serde_json.specs.Data.{Data}
+use Rattle.serde_json.specs.Find.{as_str}
+use Rattle.ctrl_model.specs.declared.commands.Command.TheVariants as command
+use Rattle.ctrl_model.specs.declared.kinds.Kind.TheVariants as kind
+use Rattle.ctrl_model.specs.declared.kinds.Relation.{Relation}
+use Rattle.ctrl_model.specs.declared.kinds.Relation.TheVariants.{Dial, Bind}
+use Rattle.ctrl_model.specs.AddressForm.{is_address, same_address}
+use Rattle.ctrl_model.specs.CommandForm.{in_range, are_attributes, is_side, is_service_relation, is_name_or_none, is_reach, are_numbers, is_destination, is_number, is_spelled}
+use Rattle.ctrl_model.specs.InterceptForm.{is_claim, is_port_range, same_ports}
+use Rattle.ctrl_model.specs.Limits.{limit, longest_path, most_number}
+use Rattle.ctrl_model.specs.NameForm.{is_name, is_instance}
+use Rattle.json_body.specs.FieldKinds.{as_name}
+use Rattle.body_fields.specs.FieldValues.{instance_of, as_instance, as_some_name}
+use Rattle.body_fields.specs.FieldWords.{relation_of, as_relation}
+use Rattle.body_fields.proofs.ClaimLaws.{as_numbers-form, as_potentials-form}
+use Rattle.body_fields.proofs.FieldLaws.{number_form}
+use Rattle.body_fields.proofs.InterceptLaws.{protocols-form, addresses-form, destination-form, ranges-form}
+use Rattle.body_fields.proofs.ItemLaws.{by_mapped}
+use Rattle.command_codec.specs.declared.body_kinds.BodyKind.{BodyKind}
+use Rattle.command_codec.specs.declared.body_kinds.BodyKind.TheVariants as body
+use Rattle.command_codec.specs.BodyForms.{Form, Values, ◌&◌, made_of}
+use Rattle.command_codec.specs.BodyKinds.{Said, as_kind}
+use Rattle.command_codec.specs.CommandForms.{Row, all_rows, claim, row_in, row_at}
+use Rattle.command_codec.specs.ContentTypes.{content_of}
+use Rattle.command_codec.proofs.NameListLaws.{as_name-form, as_attributes-form}
+use Rattle.command_codec.proofs.SideLaws.{as_side-form}
+
+-- ---- what is to hold of values
+
+-- What is to hold of a value of a kind, for a command to be one that some body spells.
+abbrev pub checks : (k : BodyKind) → Said k → List Bool
+checks body.Name n = is_name n ∷ []
+checks body.NameOrNone n = is_name_or_none n ∷ []
+checks body.Attributes ns = are_attributes ns ∷ []
+checks body.Side side = is_side side ∷ []
+checks (body.Number low high) n = in_range low high n ∷ []
+checks body.Flag b = []
+checks body.Relation r = is_service_relation r ∷ []
+checks body.Semantic s = []
+checks body.Precedence p = []
+checks body.Instance i = is_instance i ∷ []
+checks (body.Numbers most) ns = are_numbers most ns ∷ []
+checks body.Potentials es = nat_le (length es) (limit kind.Router) ∷ list_all is_reach es ∷ []
+checks body.Protocol udp = []
+checks body.Protocols p = (p.tcp || p.udp) ∷ []
+checks body.Destination a = is_destination a ∷ []
+checks body.Addresses xs = is_claim is_address same_address xs ∷ []
+checks body.Ranges rs = is_claim is_port_range same_ports rs ∷ []
+
+-- The same of the values of a form.
+abbrev pub all_checks : (form : Form) → Values form → List Bool
+all_checks [] xs = []
+all_checks (f ∷ fs) xs = checks f.kind xs.0 ++ all_checks fs xs.1
+
+abbrev pub AllTrue : List Bool → Type 0
+AllTrue bs = AllByRecursion (λ b. b ≡ true) bs
+
+-- Whether all of them hold.
+abbrev pub all_hold : List Bool → Bool
+all_hold [] = true
+all_hold (b ∷ []) = b
+all_hold (b ∷ c ∷ bs) = b && all_hold (c ∷ bs)
+
+pub hold_from : (bs : List Bool) → AllTrue bs → all_hold bs ≡ true
+hold_from [] all = refl
+hold_from (b ∷ []) all = all.0
+hold_from (b ∷ c ∷ bs) all = and_from b (all_hold (c ∷ bs)) all.0 (hold_from (c ∷ bs) all.1)
+
+pub hold_parts : (bs : List Bool) → all_hold bs ≡ true → AllTrue bs
+hold_parts [] h = tt
+hold_parts (b ∷ []) h = h & tt
+hold_parts (b ∷ c ∷ bs) h = let p = and_parts b (all_hold (c ∷ bs)) h in p.0 & hold_parts (c ∷ bs) p.1
+
+pub both_true : (bs cs : List Bool) → AllTrue bs → AllTrue cs → AllTrue (bs ++ cs)
+both_true [] cs first then = then
+both_true (b ∷ bs) cs first then = first.0 & both_true bs cs first.1 then
+
+pub true_parts : (bs cs : List Bool) → AllTrue (bs ++ cs) → AllTrue bs × AllTrue cs
+true_parts [] cs all = (tt, all)
+true_parts (b ∷ bs) cs all = let p = true_parts bs cs all.1 in (all.0 & p.0, p.1)
+
+-- ---- what values say
+
+as_instance-form : (d : Data) (i : List ℕ) → as_instance d ≡ Some i → is_instance i ≡ true
+as_instance-form d i e =
+    option_and_then_some instance_of (as_str d) i e (λ bytes is h. let p = cond_some (is_instance bytes) bytes i h in subst (λ b. is_instance b ≡ true) p.1 p.0)
+
+as_some_name-form : (d : Data) (n : Option (List ℕ)) → as_some_name d ≡ Some n → is_name_or_none n ≡ true
+as_some_name-form d n e =
+    by_mapped (λ m. Some m) (as_name d) n e (λ m is same. subst (λ k. is_name_or_none k ≡ true) same (as_name-form d m is))
+
+relation_of-form : (word : List ℕ) (r : Relation) → relation_of word ≡ Some r → is_service_relation r ≡ true
+relation_of-form word r e = by (bytes_eq word (codes "Dial")) (bytes_eq word (codes "Bind")) e
+  where
+    by : (b d : Bool) → cond b (Some Dial) (cond d (Some Bind) None) ≡ Some r → is_service_relation r ≡ true
+    by true d e = subst (λ s. is_service_relation s ≡ true) (same_Some Dial r e) refl
+    by false true e = subst (λ s. is_service_relation s ≡ true) (same_Some Bind r e) refl
+    by false false e = absurd (cc)
+
+as_relation-form : (d : Data) (r : Relation) → as_relation d ≡ Some r → is_service_relation r ≡ true
+as_relation-form d r e = option_and_then_some relation_of (as_str d) r e (λ word is k. relation_of-form word r k)
+
+-- What a value of a kind says keeps what is to hold.
+pub kind_holds : (k : BodyKind) (d : Data) (x : Said k) → as_kind k d ≡ Some x → AllTrue (checks k x)
+kind_holds body.Name d x e = as_name-form d x e & tt
+kind_holds body.NameOrNone d x e = as_some_name-form d x e & tt
+kind_holds body.Attributes d x e = as_attributes-form d x e & tt
+kind_holds body.Side d x e = as_side-form d x e & tt
+kind_holds (body.Number low high) d x e = number_form low high d x e & tt
+kind_holds body.Flag d x e = tt
+kind_holds body.Relation d x e = as_relation-form d x e & tt
+kind_holds body.Semantic d x e = tt
+kind_holds body.Precedence d x e = tt
+kind_holds body.Instance d x e = as_instance-form d x e & tt
+kind_holds (body.Numbers most) d x e = as_numbers-form most d x e & tt
+kind_holds body.Potentials d x e = as_potentials-form d x e (λ few each. few & each & tt)
+kind_holds body.Protocol d x e = tt
+kind_holds body.Protocols d x e = protocols-form d x e & tt
+kind_holds body.Destination d x e = destination-form d x e & tt
+kind_holds body.Addresses d x e = addresses-form d x e & tt
+kind_holds body.Ranges d x e = ranges-form d x e & tt
+
+-- ---- the rows
+
+-- The value that a field has where it is left out keeps what is to hold.
+abbrev pub default_holds : (k : BodyKind) → Option (Said k) → Bool
+default_holds k None = true
+default_holds k (Some x) = all_hold (checks k x)
+
+abbrev pub defaults_hold : Form → Bool
+defaults_hold form = list_all (λ f. default_holds f.kind f.otherwise) form
+
+-- A command of a row is one that some body spells exactly where its values keep what is to hold of them, and so do the values of the
+-- fields that are left out.
+pub record RowHolds (r : Row) : Type 0 where
+  pub spelled : (xs : Values r.form) → is_spelled (made_of r.form r.make xs) ≡ all_hold (all_checks r.form xs)
+  pub typed : (xs : Values r.form) → content_of (made_of r.form r.make xs) ≡ r.content
+  pub defaults : defaults_hold r.form ≡ true
+
+holds : {r : Row} → ((xs : Values r.form) → is_spelled (made_of r.form r.make xs) ≡ all_hold (all_checks r.form xs))
+    → ((xs : Values r.form) → content_of (made_of r.form r.make xs) ≡ r.content) → defaults_hold r.form ≡ true → RowHolds r
+holds spelled typed defaults = record { spelled = spelled; typed = typed; defaults = defaults }
+
+-- A number that is at most so much is in the range from 0.
+from_zero : (m : ℕ) → nat_le m most_number ≡ in_range 0 most_number m
+from_zero m = sym (ap (λ b. b && nat_le m most_number) (le-leb 0 m (omega arith)))
+
+route_spelled : (xs : Values claim) → is_spelled (made_of claim command.VerifyRoute xs) ≡ all_hold (all_checks claim xs)
+route_spelled xs =
+    ap (λ b. is_name xs.0 && (is_name xs.1.0 && (is_name_or_none xs.1.1.0 && (is_instance xs.1.1.1.0 && (is_name xs.1.1.1.1.0
+    && (are_numbers longest_path xs.1.1.1.1.1.0 && (nat_le (length xs.1.1.1.1.1.1.0) (limit kind.Router) && (list_all is_reach xs.1.1.1.1.1.1.0
+    && (are_numbers (limit kind.Router) xs.1.1.1.1.1.1.1.0 && (is_number xs.1.1.1.1.1.1.1.1.0 && b)))))))))) (from_zero xs.1.1.1.1.1.1.1.1.1.0)
+
+-- Each row, in its order: what is to hold of its command is what is to hold of its values.
+pub rows_hold : AllByRecursion RowHolds all_rows
+rows_hold =
+    holds (λ xs. refl) (λ xs. refl) refl & holds (λ xs. refl) (λ xs. refl) refl & holds (λ xs. refl) (λ xs. refl) refl
+    & holds (λ xs. refl) (λ xs. refl) refl & holds (λ xs. refl) (λ xs. refl) refl & holds (λ xs. refl) (λ xs. refl) refl
+    & holds (λ xs. refl) (λ xs. refl) refl & holds (λ xs. refl) (λ xs. refl) refl & holds (λ xs. refl) (λ xs. refl) refl
+    & holds (λ xs. refl) (λ xs. refl) refl & holds (λ xs. refl) (λ xs. refl) refl & holds (λ xs. refl) (λ xs. refl) refl
+    & holds (λ xs. refl) (λ xs. refl) refl & holds (λ xs. refl) (λ xs. refl) refl & holds (λ xs. refl) (λ xs. refl) refl
+    & holds (λ xs. refl) (λ xs. refl) refl & holds (λ xs. refl) (λ xs. refl) refl & holds (λ xs. refl) (λ xs. refl) refl
+    & holds (λ xs. refl) (λ xs. refl) refl & holds (λ xs. refl) (λ xs. refl) refl & holds (λ xs. refl) (λ xs. refl) refl
+    & holds (λ xs. refl) (λ xs. refl) refl & holds (λ xs. refl) (λ xs. refl) refl & holds (λ xs. refl) (λ xs. refl) refl
+    & holds (λ xs. refl) (λ xs. refl) refl & holds (λ xs. refl) (λ xs. refl) refl & holds (λ xs. refl) (λ xs. refl) refl
+    & holds (λ xs. refl) (λ xs. refl) refl & holds (λ xs. refl) (λ xs. refl) refl & holds (λ xs. refl) (λ xs. refl) refl
+    & holds (λ xs. refl) (λ xs. refl) refl & holds (λ xs. refl) (λ xs. refl) refl & holds route_spelled (λ xs. refl) refl
+    & holds (λ xs. refl) (λ xs. refl) refl & holds (λ xs. refl) (λ xs. refl) refl & holds (λ xs. refl) (λ xs. refl) refl
+    & holds (λ xs. refl) (λ xs. refl) refl & holds (λ xs. refl) (λ xs. refl) refl & holds (λ xs. refl) (λ xs. refl) refl
+    & holds (λ xs. refl) (λ xs. refl) refl & holds (λ xs. refl) (λ xs. refl) refl & holds (λ xs. refl) (λ xs. refl) refl
+    & tt
+
+-- What holds of all rows holds of the one at a content type.
+pub row_of_all : (P : Row → Type 0) (rows : List Row) → AllByRecursion P rows → (content : ℕ) (r : Row) → row_in rows content ≡ Some r → P r
+row_of_all P [] all content r at = absurd (let none : ◌≡◌ {A = Option Row} None (Some r) = at in cc)
+row_of_all P (q ∷ qs) all content r at = by (q.content == content) (λ behind. row_of_all P qs all.1 content r behind) at
+  where
+    by : (b : Bool) → (row_in qs content ≡ Some r → P r) → cond b (Some q) (row_in qs content) ≡ Some r → P r
+    by true rest at = subst P (same_Some q r at) all.0
+    by false rest at = rest at
+
+-- The row at a content type is of it.
+pub row_content : (rows : List Row) (content : ℕ) (r : Row) → row_in rows content ≡ Some r → r.content ≡ content
+row_content [] content r at = absurd (let none : ◌≡◌ {A = Option Row} None (Some r) = at in cc)
+row_content (q ∷ qs) content r at = by (q.content == content) refl (λ behind. row_content qs content r behind) at
+  where
+    by : (b : Bool) → (q.content == content) ≡ b → (row_in qs content ≡ Some r → r.content ≡ content) → cond b (Some q) (row_in qs content) ≡ Some r → r.content ≡ content
+    by true is rest at = subst (λ (s : Row). s.content ≡ content) (same_Some q r at) (eqb-true q.content content is)
+    by false is rest at = rest at
+
+pub row_holds : (content : ℕ) (r : Row) → row_at content ≡ Some r → RowHolds r
+row_holds content r at = row_of_all RowHolds all_rows rows_hold content r at
