@@ -1,4 +1,4 @@
-use Rattle.std.proofs.Common.{◌≡◌, refl, codes, Ok, Err, Result, []}
+use Rattle.std.proofs.Common.{◌≡◌, ℕ, refl, ap, arith, codes, Ok, Err, Result, [], ◌∷◌}
 use Rattle.std.specs.Str.{is_utf8, chars}
 use Rattle.serde_json.proofs.OnLiterals.{serde_json_on_literals}
 use Rattle.ctrl_model.specs.declared.commands.Command.{Command}
@@ -23,8 +23,14 @@ pub returns-clause-other_type : goal.returns-clause-other_type
 unfolding serde_json_on_literals is_utf8 chars
 returns-clause-other_type c = λ spells. other_service ((c.what_a_body_spells.ensures.spells 1010 (codes "{\"name\":\"ann\"}") (command.CreateIdentity (codes "ann") [])).1 spells)
 
+-- the first byte of the name of an identity that is deleted
+first_of : Result Command CodecFault → ℕ
+first_of (Ok (command.DeleteIdentity (x ∷ xs))) = x
+first_of _ = 0
+
 other_name : ◌≡◌ {A = Result Command CodecFault} (Ok (command.DeleteIdentity (codes "ann"))) (Ok (command.DeleteIdentity (codes "bob"))) → ⊥
-other_name e = cc
+unfolding first_of
+other_name e = let first : ◌≡◌ {A = ℕ} 97 98 = ap first_of e in absurd (omega (arith, first))
 
 pub returns-clause-other_value : goal.returns-clause-other_value
 unfolding serde_json_on_literals is_utf8 chars
