@@ -1,5 +1,5 @@
 -- The circuits that are found to go after a change are those that do not stay as they are.
-use Rattle.std.proofs.Common.{◌≡◌, ℕ, ◌==◌, Bool, true, false, not, ◌&&◌, List, [], ◌∷◌, is_some, Option, None, Some, inl, inr, refl, sym, ◌∙◌, ap, subst}
+use Rattle.std.proofs.Common.{◌≡◌, ℕ, ◌==◌, Bool, true, false, not, ◌&&◌, List, [], ◌∷◌, is_some, option_map, Option, None, Some, inl, inr, refl, sym, ◌∙◌, ap, subst}
 use Rattle.std.proofs.lemmas.Bool.{and_from, or_parts, false≢true}
 use Rattle.std.specs.List.{filter}
 use Rattle.std.specs.Option.{option_map_or}
@@ -157,6 +157,11 @@ still_routed (change.Policy k) st e granted = absurd (false≢true e)
 still_routed (change.Link k) st e granted = absurd (false≢true e)
 still_routed (change.Terminator k) st e granted = absurd (false≢true e)
 still_routed (change.Intercept k) st e granted = absurd (false≢true e)
+
+-- there is a part where one is lent
+pub some_part : {A B : Type 0} (f : A → B) (o : Option A) (p : Option B) → option_map f o ≡ p → is_some p ≡ is_some o
+some_part f None p e = ap is_some (sym e)
+some_part f (Some x) p e = ap is_some (sym e)
 
 -- and else there is no change of circuits
 pub no_part : (o : Option CircuitChange) → is_some o ≡ false → o ≡ None
