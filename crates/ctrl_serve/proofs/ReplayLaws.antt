@@ -106,7 +106,7 @@ keeps_machine k m tells reads images is ready told =
 
 -- What the loop says of such a run.
 pub kept_runs : {S D : Type 0} (o : Outside S D) (form : Form) (most : ℕ) (k later : Controlled) (source source_now : S) (desk desk_now : D) (status : Status)
-    → RunsOn (intake_of form most controller (kept_serving k) o.tells) (passage_of (o.left source) (o.left source_now) false (o.seen desk) (o.stopped desk) (o.stopped desk_now))
+    → RunsOn (intake_of form most controller (kept_serving k) (machine_of k) o.tells) (passage_of (o.left source) (o.left source_now) false (o.seen desk) (o.stopped desk) (o.stopped desk_now))
     (machine_of later) (GoesOn (kept_serving k) (kept_serving later) × IsReady (kept_needs later) o.tells (o.seen desk_now).reads (o.stopped desk_now).images) (o.seen desk_now) status
     → RunsKept (taking_of form most) k o source source_now desk desk_now status
 kept_runs o form most k later source source_now desk desk_now status runs =
