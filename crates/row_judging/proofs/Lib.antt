@@ -1,0 +1,4 @@
+mod SoundStates
+mod FoundStates
+pub mod JudgedStates
+pub mod SerialRows
