@@ -10,6 +10,8 @@ pub mod RunStops
 pub mod UnsaidReplies
 pub mod FolderWords
 pub mod ShipWords
+pub mod FollowWords
+pub mod CopyViews
 pub mod FolderRuns
 pub mod UncompactedFolders
 pub mod LookedLines

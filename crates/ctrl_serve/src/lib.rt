@@ -1,5 +1,5 @@
-//! The top call of the controller. By the words it reads the input, answers each whole frame and says the replies; or it looks at the
-//! folder, ships or compacts it, or answers a generated load.
+//! The top call of the controller. By the words it reads the input, answers each whole frame and says the replies, by the controller or a
+//! follower; or it looks at the folder, ships or compacts it, or answers a generated load.
 #![tactic(auto)]
 
 mod bounds;
@@ -7,6 +7,7 @@ mod command_line;
 mod controller;
 mod ending;
 mod folder;
+mod following;
 mod laws;
 mod loads;
 mod looking;

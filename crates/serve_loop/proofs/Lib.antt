@@ -1,7 +1,7 @@
 pub mod FailureLaws
 pub mod KnownLaws
 pub mod DeskLaws
-mod OwnReplyLaws
+pub mod OwnReplyLaws
 pub mod FollowLaws
 pub mod TurnLaws
 pub mod UsedLaws
