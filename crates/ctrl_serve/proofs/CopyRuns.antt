@@ -22,7 +22,7 @@ use Rattle.row_store.specs.StoredRows.{ReadsAs, Stored}
 use Rattle.ctrl_keep.specs.KeptController.{Controlled, HoldsRows, machine_of}
 use Rattle.ctrl_keep.specs.MigratedFolders.{IsMigrated, Migrates, MigratesBy}
 use Rattle.follow_core.specs.Following.{Copy}
-use Rattle.follow_core.specs.FollowedCopies.{Followed, HoldsState, StandsAs, copy_of}
+use Rattle.follow_core.specs.FollowedCopies.{AreSoughtIn, Followed, HoldsState, copy_of, serial_in_store}
 use Rattle.session_mux.specs.declared.events.Event.{Event}
 use Rattle.session_mux.specs.declared.sessions.Form.{Form}
 use Rattle.run_notes.specs.declared.status.Status.{Status}
@@ -37,7 +37,7 @@ use Rattle.ctrl_serve.specs.FollowWords.{AllOpenToCopy, Copies, KeepsCopy, Opens
 use Rattle.ctrl_serve.specs.MigratedRuns.{HasRoomToOpen}
 use Rattle.ctrl_serve.specs.OpenedFolders.{StandsOpened}
 use Rattle.ctrl_serve.specs.RunStops.{AllOpenTo}
-use Rattle.ctrl_serve.proofs.CopyLaws.{copy_found, stands_as, stands_records, state_copy, told_copy}
+use Rattle.ctrl_serve.proofs.CopyLaws.{copy_found, ready_as, stands_as, stands_records, state_copy, told_copy}
 use Rattle.ctrl_serve.proofs.OpenedMachines.{Made, created_none, kept_keeps, kept_stands, migrated_to, opens_by, place_at, roomy_by}
 use Rattle.ctrl_serve.proofs.ReplayLaws.{opening_of, serves_behind}
 use Rattle.ctrl_serve.proofs.RunStopLaws.{Opening, stops_behind, stops_later_behind}
@@ -64,6 +64,15 @@ holds_state k stored same holds = record {
   valid = holds.valid;
   rows = ap (λ (s : Stored). s.rows) same ∙ holds.rows;
 }
+
+-- It is ready, since no kept record was sought yet.
+pub ready_first : (k : Controlled) (f : Followed) (tells : Bool) (reads : Image) (images : Image → Type 0) → f.stored ≡ k.stored → f.sought ≡ None → HoldsRows k
+    → (IsTrue tells → ReadsAs k.stored reads images) → IsReady (copy_needs f) tells reads images
+ready_first k f tells reads images same none holds stands =
+    ready_as f tells reads images (holds_state k f.stored same holds) (λ told. record {
+      stored = subst (λ (s : Stored). ReadsAs s reads images) (sym same) (stands told);
+      sought = λ records stood. subst (AreSoughtIn records (serial_in_store f.stored)) (sym none) tt;
+    })
 
 -- And it is the copy to which the folder opens.
 opens_as : (bounds : StoreBounds) (image reads : Image) (images : Image → Type 0) (k : Controlled) (f : Followed) → f.stored ≡ k.stored → f.parts ≡ None → OpensToState image k.state → HoldsRows k
