@@ -14,7 +14,7 @@ ghost use Rattle.row_store.specs.OpenedStates.{OpensToState};
 ghost use Rattle.row_store.specs.WorkedStores.{three_parts};
 ghost use Rattle.ctrl_keep.specs.WorkedMachines.{at_most, machine_at, marked};
 ghost use Rattle.ctrl_serve.specs.CommandLine.{form_of, number_below};
-ghost use Rattle.ctrl_serve.specs.declared.command_line.Form.TheVariants.{Dry, Replay, Audit, Compact, Load, Advise, Ship};
+ghost use Rattle.ctrl_serve.specs.declared.command_line.Form.TheVariants.{Dry, Replay, Audit, Compact, Load, Advise, Ship, Follow};
 ghost use Rattle.session_mux.specs.declared.sessions.Form.TheVariants.{Plain, Trace};
 ghost use Rattle.session_mux.specs.WorkedTraces.{one_session, two_sessions, kind_five, one_faulty};
 ghost use Rattle.ctrl_serve.specs.FrameAnswer.{no_bounds, alone, replies};
@@ -38,6 +38,8 @@ pub fn worked_words()
     ensures compact { form_of (codes "compact" ∷ []) ≡ Some Compact }
     ensures audit_sessions { form_of (codes "audit" ∷ codes "--sessions" ∷ []) ≡ None }
     ensures compact_twice { form_of (codes "compact" ∷ codes "compact" ∷ []) ≡ None }
+    ensures follow { form_of (codes "follow" ∷ []) ≡ Some Follow }
+    ensures follow_more { form_of (codes "follow" ∷ codes "1" ∷ []) ≡ None }
     ensures none { form_of [] ≡ None }
     ensures other { form_of (codes "Dry" ∷ []) ≡ None }
     ensures more { form_of (codes "dry" ∷ codes "dry" ∷ []) ≡ None }
