@@ -103,7 +103,7 @@ pub record IsBatchFrom (states : List State) (sort : Sort) (serial : ℕ) : Type
   pub read : batch_in (history_of states sort serial) ≡ Some ops
   pub leads : LeadsTo (byte_rows_of Two before) ops serial after
 
-before_valid : (states : List State) (sort : Sort) (serial : ℕ) (s : State) → IsHistory states → state_before states sort serial ≡ Some s → ValidState s
+pub before_valid : (states : List State) (sort : Sort) (serial : ℕ) (s : State) → IsHistory states → state_before states sort serial ≡ Some s → ValidState s
 before_valid states Whole serial s history e = let same : start ≡ s = cc in subst ValidState same start_valid
 before_valid states Next zero s history e = absurd cc
 before_valid states Next (suc serial) s history e = (valid_at states serial s history e).0

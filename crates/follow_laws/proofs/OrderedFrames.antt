@@ -26,10 +26,10 @@ use Rattle.follow_core.specs.declared.taken.Taken.{Taken}
 use Rattle.follow_core.specs.declared.taken.Taken.TheVariants as taken
 use Rattle.follow_core.specs.Following.{Copy, with_parts, received, gathered_so, follow, taken_all, copy_after}
 use Rattle.follow_core.proofs.BatchWords.{many_bytes}
-use Rattle.follow_laws.specs.Histories.{IsHistory, AreShippable, state_at, rows_at, between, history_of, shipment_of, IsAt, IsWithinLimits, nexts_shipped, shipped_from}
+use Rattle.follow_laws.specs.Histories.{IsHistory, state_at, rows_at, between, history_of, shipment_of, IsAt, IsWithinLimits, nexts_shipped, shipped_from}
 use Rattle.follow_laws.proofs.HistoryStates.{valid_at, serial_fits}
 use Rattle.follow_laws.proofs.DecidedBatches.{Keeps, whole_keeps, next_keeps}
-use Rattle.follow_laws.proofs.TakenFrames.{followed, few_pieces}
+use Rattle.follow_laws.proofs.TakenFrames.{followed, shippable}
 
 -- ---- the frames of one batch
 
@@ -165,13 +165,13 @@ batch_taken states bounds place serial s c fits few some keeps within =
     let whole = batch_received bounds place s c fits few some in
     subst (IsAt states (Some serial)) (sym whole.0) (took states serial (with_parts c None) (received bounds s (with_parts c None)) keeps (whole.1 within))
 
-nexts_taken : (states : List State) (bounds : StoreBounds) (place own count : ℕ) (c : Copy) → IsHistory states → AreShippable states → own + count < length states
+nexts_taken : (states : List State) (bounds : StoreBounds) (place own count : ℕ) (c : Copy) → IsHistory states → own + count < length states
     → IsAt states (Some own) c → AllByRecursion IsWithinLimits (taken_all bounds (frames_of_all place (nexts_shipped states own count)) c)
     → (copy_after bounds (frames_of_all place (nexts_shipped states own count)) c).rows ≡ rows_at states (own + count)
-nexts_taken states bounds place own zero c history few upto here within =
+nexts_taken states bounds place own zero c history upto here within =
     let last : own ≡ own + 0 = omega arith in
     rows_there states own c here ∙ ap (rows_at states) last
-nexts_taken states bounds place own (suc count) c history few upto here within =
+nexts_taken states bounds place own (suc count) c history upto here within =
     let s = shipment_of states Next (own + 1) in
     let more = frames_of_all (place + piece_count s.bytes) (nexts_shipped states (own + 1) count) in
     let next : own + 1 ≡ suc own = omega arith in
@@ -180,21 +180,21 @@ nexts_taken states bounds place own (suc count) c history few upto here within =
     (next_some states own here.state found.0 history here.there (ap (state_at states) (sym next) ∙ found.1)) in
     let parts = within_append bounds (frames_of place s) more c within in
     let keeps = next_keeps states bounds own (own + 1) (with_parts c None) history here next some in
-    let there = batch_taken states bounds place (own + 1) s c (serial_fits states (own + 1) found.0 history found.1) (few_pieces s.bytes (few Next (own + 1))) some keeps parts.0 in
-    let rest = nexts_taken states bounds (place + piece_count s.bytes) (own + 1) count (copy_after bounds (frames_of place s) c) history few (omega (arith, upto)) there parts.1 in
+    let there = batch_taken states bounds place (own + 1) s c (serial_fits states (own + 1) found.0 history found.1) (shippable states Next (own + 1) history) some keeps parts.0 in
+    let rest = nexts_taken states bounds (place + piece_count s.bytes) (own + 1) count (copy_after bounds (frames_of place s) c) history (omega (arith, upto)) there parts.1 in
     let last : own + 1 + count ≡ own + suc count = omega arith in
     ap (λ (x : Copy). x.rows) (copy_append bounds (frames_of place s) more c) ∙ rest ∙ ap (rows_at states) last
 
-pub all_taken : (states : List State) (bounds : StoreBounds) (place serial count : ℕ) (c : Copy) → IsHistory states → AreShippable states → serial + count < length states
+pub all_taken : (states : List State) (bounds : StoreBounds) (place serial count : ℕ) (c : Copy) → IsHistory states → serial + count < length states
     → (rows_at states serial ≡ [] → ⊥) → IsAt states None c → AllByRecursion IsWithinLimits (taken_all bounds (frames_of_all place (shipped_from states serial count)) c)
     → (copy_after bounds (frames_of_all place (shipped_from states serial count)) c).rows ≡ rows_at states (serial + count)
-all_taken states bounds place serial count c history few upto rows here within =
+all_taken states bounds place serial count c history upto rows here within =
     let s = shipment_of states Whole serial in
     let more = frames_of_all (place + piece_count s.bytes) (nexts_shipped states serial count) in
     let found = there_is states serial (omega (arith, upto)) in
     let some : 1 ≤ length s.bytes = whole_some states serial found.0 history found.1 rows in
     let parts = within_append bounds (frames_of place s) more c within in
     let keeps = whole_keeps states bounds serial (with_parts c None) history here some in
-    let there = batch_taken states bounds place serial s c (serial_fits states serial found.0 history found.1) (few_pieces s.bytes (few Whole serial)) some keeps parts.0 in
+    let there = batch_taken states bounds place serial s c (serial_fits states serial found.0 history found.1) (shippable states Whole serial history) some keeps parts.0 in
     ap (λ (x : Copy). x.rows) (copy_append bounds (frames_of place s) more c)
-    ∙ nexts_taken states bounds (place + piece_count s.bytes) serial count (copy_after bounds (frames_of place s) c) history few upto there parts.1
+    ∙ nexts_taken states bounds (place + piece_count s.bytes) serial count (copy_after bounds (frames_of place s) c) history upto there parts.1

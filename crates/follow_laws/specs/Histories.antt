@@ -1,5 +1,5 @@
 -- A leader's history, what is shipped of it, and a copy that is some state of it (docs/RULES.md, "Following").
-use Rattle.std.specs.Prelude.{◌≡◌, ⊤, ℕ, zero, suc, ◌+◌, ◌^◌, ◌<◌, ◌≤◌, List, [], ◌∷◌, length, None, Some}
+use Rattle.std.specs.Prelude.{◌≡◌, ⊤, ℕ, zero, suc, ◌+◌, ◌<◌, ◌≤◌, List, [], ◌∷◌, None, Some}
 use Rattle.std.specs.declared.option.Option.{Option}
 use Rattle.std.specs.Option.{option_map_or}
 use Rattle.ctrl_model.specs.declared.formats.Format.TheVariants.{Two}
@@ -57,10 +57,6 @@ history_of states sort serial = between (state_before states sort serial) (state
 -- It as it is shipped.
 abbrev pub shipment_of : List State → Sort → (serial : ℕ) → Shipment
 shipment_of states sort serial = record { sort = sort; serial = serial; bytes = history_of states sort serial }
-
--- No batch of a history has more bytes than a slot of the program may have, so that a leader can keep each.
-abbrev pub AreShippable : List State → Type 0
-AreShippable states = (sort : Sort) (serial : ℕ) → length (history_of states sort serial) ≤ 2 ^ 30
 
 -- A frame is one of a history: a piece of one of its batches, at some place of some output.
 pub record IsFrameOf (states : List State) (frame : Frame) : Type 0 where
@@ -122,10 +118,11 @@ IsWithinLimits _ = ⊤
 
 -- ---- all in order
 
--- The Whole of a serial and so many Nexts behind it, as they are shipped.
+-- So many Nexts behind a serial, as they are shipped.
 abbrev pub nexts_shipped : List State → (serial count : ℕ) → List Shipment
 nexts_shipped states serial zero = []
 nexts_shipped states serial (suc count) = shipment_of states Next (serial + 1) ∷ nexts_shipped states (serial + 1) count
 
+-- The Whole of a serial and so many Nexts behind it, as they are shipped.
 abbrev pub shipped_from : List State → (serial count : ℕ) → List Shipment
 shipped_from states serial count = shipment_of states Whole serial ∷ nexts_shipped states serial count

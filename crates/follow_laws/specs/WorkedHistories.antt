@@ -4,10 +4,11 @@ use Rattle.ctrl_model.specs.declared.commands.Command.TheVariants.{CreateIdentit
 use Rattle.ctrl_model.specs.State.{State, start}
 use Rattle.ctrl_model.specs.WorkedStates.{after}
 
--- The state with the identity ann, behind the start, and the one with bob behind her.
+-- The state with the identity ann, behind the start.
 abbrev pub with_ann : State
 with_ann = record (after (CreateIdentity (codes "ann") [] ∷ []) start) { serial = 1 }
 
+-- The state with bob behind her.
 abbrev pub with_both : State
 with_both = record (after (CreateIdentity (codes "ann") [] ∷ CreateIdentity (codes "bob") [] ∷ []) start) { serial = 2 }
 

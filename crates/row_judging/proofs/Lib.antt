@@ -2,3 +2,4 @@ mod SoundStates
 mod FoundStates
 pub mod JudgedStates
 pub mod SerialRows
+pub mod SizedRows

@@ -4,4 +4,4 @@
 
 mod laws;
 
-pub use laws::rows_are_judged_exactly;
+pub use laws::{batches_of_states_are_bounded, rows_are_judged_exactly};
