@@ -50,9 +50,9 @@ closed_none (step ∷ steps) gate more closed =
     ap (λ (b : Bool). cond b (take (payload_len more) (drop 4 more) ∷ payloads_within steps (drop (payload_len more) (drop 4 more))) []) (not_one gate closed)
   where
     not_one : (n : ℕ) → n ≢ 1 → (n == 1) ≡ false
-    not_one zero no = refl
-    not_one (suc zero) no = absurd (no refl)
-    not_one (suc (suc n)) no = refl
+    not_one zero other = refl
+    not_one (suc zero) other = absurd (other refl)
+    not_one (suc (suc n)) other = refl
 
 -- A record is read again, with what comes behind it.
 one_record : (step : ℕ) (steps payload tail : List ℕ) → IsPayload payload → payloads_within (step ∷ steps) (1 ∷ (record_of payload ++ tail)) ≡ payload ∷ payloads_within steps tail

@@ -4,7 +4,6 @@ pub mod FrameAnswer
 pub mod SaidReplies
 pub mod OpenedFolders
 pub mod MigratedRuns
-pub mod WorkedAnswers
 pub mod Loads
 pub mod RunStops
 pub mod UnsaidReplies
@@ -21,6 +20,5 @@ pub mod KnownReplies
 pub mod FollowedFolders
 pub mod Runs
 pub use Rattle.run_notes.specs.Statuses
-pub mod WorkedStops
 pub mod CompleteRuns
 pub mod LeftFolders

@@ -13,7 +13,6 @@ mod loads;
 mod looking;
 mod shipping;
 mod top;
-mod worked;
 
 pub use bounds::Bounds;
 pub use command_line::Form;
@@ -28,8 +27,3 @@ pub use laws::{
 };
 pub use run_notes::Status;
 pub use top::{run, run_within};
-pub use worked::{
-    worked_answers, worked_circuits, worked_counts, worked_networks, worked_numbers,
-    worked_policies, worked_readings, worked_runs, worked_sessions, worked_stops,
-    worked_uncompacted, worked_words,
-};

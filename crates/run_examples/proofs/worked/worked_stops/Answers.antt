@@ -18,8 +18,8 @@ use Rattle.run_notes.specs.Inputs.{events_in}
 use Rattle.ctrl_serve.specs.FrameAnswer.{machine_behind, each_reply, replies_to}
 use Rattle.ctrl_serve.specs.SaidReplies.{joined}
 use Rattle.ctrl_serve.specs.RunStops.{HoldsFirst, IsBetween, IsWithin, state_behind}
-use Rattle.ctrl_serve.specs.WorkedStops.{only_ann, ann_and_bob, bob_bytes}
-use Rattle.ctrl_serve.proofs.worked.worked_stops.Goals as goal
+use Rattle.run_examples.specs.WorkedStops.{only_ann, ann_and_bob, bob_bytes}
+use Rattle.run_examples.proofs.worked.worked_stops.Goals as goal
 
 -- The state behind the frame that creates ann, in a new folder with these bounds.
 abbrev behind_ann : StoreBounds → ℕ → State

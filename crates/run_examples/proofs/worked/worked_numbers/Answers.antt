@@ -1,6 +1,6 @@
 use Rattle.std.proofs.Common.{refl}
 use Rattle.std.specs.Fmt.{digits}
-use Rattle.ctrl_serve.proofs.worked.worked_numbers.Goals as goal
+use Rattle.run_examples.proofs.worked.worked_numbers.Goals as goal
 
 pub returns-clause-zero : goal.returns-clause-zero
 unfolding digits

@@ -5,7 +5,7 @@ use Rattle.serde_json.proofs.OnLiterals.{serde_json_on_literals}
 use Rattle.ziti_outside.specs.declared.desk.Part.{Part}
 use Rattle.ziti_outside.specs.declared.desk.Part.TheVariants.{Zero, One, Mark}
 use Rattle.row_store.specs.WorkedStores.{three_parts}
-use Rattle.ctrl_serve.proofs.worked.worked_uncompacted.Goals as goal
+use Rattle.run_examples.proofs.worked.worked_uncompacted.Goals as goal
 
 pub returns-clause-asks : goal.returns-clause-asks
 unfolding serde_json_on_literals is_utf8 chars digits

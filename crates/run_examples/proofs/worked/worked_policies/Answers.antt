@@ -2,7 +2,7 @@ use Rattle.std.proofs.Common.{refl}
 use Rattle.std.specs.Fmt.{digits}
 use Rattle.std.specs.Str.{is_utf8, chars}
 use Rattle.serde_json.proofs.OnLiterals.{serde_json_on_literals}
-use Rattle.ctrl_serve.proofs.worked.worked_policies.Goals as goal
+use Rattle.run_examples.proofs.worked.worked_policies.Goals as goal
 
 pub returns-clause-once : goal.returns-clause-once
 unfolding serde_json_on_literals is_utf8 chars digits

@@ -13,7 +13,7 @@ use Rattle.session_mux.specs.Completion.{completed}
 use Rattle.session_mux.specs.WorkedTraces.{one_session, two_sessions, one_faulty}
 use Rattle.ctrl_serve.specs.FrameAnswer.{no_bounds, alone, spoken}
 use Rattle.run_notes.specs.Inputs.{no_counts}
-use Rattle.ctrl_serve.proofs.worked.worked_sessions.Goals as goal
+use Rattle.run_examples.proofs.worked.worked_sessions.Goals as goal
 
 -- The bytes of the replies to some frames of a trace.
 abbrev said_to : List (ℕ × (Who × Frame)) → List ℕ

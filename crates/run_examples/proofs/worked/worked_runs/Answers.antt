@@ -2,16 +2,16 @@ use Rattle.std.proofs.Common.{refl}
 use Rattle.std.specs.Fmt.{digits}
 use Rattle.std.specs.Str.{is_utf8, chars}
 use Rattle.serde_json.proofs.OnLiterals.{serde_json_on_literals}
-use Rattle.ctrl_serve.proofs.worked.worked_circuits.Goals as goal
+use Rattle.run_examples.proofs.worked.worked_runs.Goals as goal
 
-pub returns-clause-granted : goal.returns-clause-granted
+pub returns-clause-once : goal.returns-clause-once
 unfolding serde_json_on_literals is_utf8 chars digits
-returns-clause-granted c = refl
+returns-clause-once c = refl
 
-pub returns-clause-ended : goal.returns-clause-ended
+pub returns-clause-twice : goal.returns-clause-twice
 unfolding serde_json_on_literals is_utf8 chars digits
-returns-clause-ended c = refl
+returns-clause-twice c = refl
 
-pub returns-clause-denied : goal.returns-clause-denied
+pub returns-clause-before_a_tail : goal.returns-clause-before_a_tail
 unfolding serde_json_on_literals is_utf8 chars digits
-returns-clause-denied c = refl
+returns-clause-before_a_tail c = refl

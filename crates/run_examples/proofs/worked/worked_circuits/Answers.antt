@@ -2,16 +2,16 @@ use Rattle.std.proofs.Common.{refl}
 use Rattle.std.specs.Fmt.{digits}
 use Rattle.std.specs.Str.{is_utf8, chars}
 use Rattle.serde_json.proofs.OnLiterals.{serde_json_on_literals}
-use Rattle.ctrl_serve.proofs.worked.worked_runs.Goals as goal
+use Rattle.run_examples.proofs.worked.worked_circuits.Goals as goal
 
-pub returns-clause-once : goal.returns-clause-once
+pub returns-clause-granted : goal.returns-clause-granted
 unfolding serde_json_on_literals is_utf8 chars digits
-returns-clause-once c = refl
+returns-clause-granted c = refl
 
-pub returns-clause-twice : goal.returns-clause-twice
+pub returns-clause-ended : goal.returns-clause-ended
 unfolding serde_json_on_literals is_utf8 chars digits
-returns-clause-twice c = refl
+returns-clause-ended c = refl
 
-pub returns-clause-before_a_tail : goal.returns-clause-before_a_tail
+pub returns-clause-denied : goal.returns-clause-denied
 unfolding serde_json_on_literals is_utf8 chars digits
-returns-clause-before_a_tail c = refl
+returns-clause-denied c = refl

@@ -23,8 +23,8 @@ ghost use Rattle.ctrl_serve.specs.Loads.{counts_line};
 ghost use Rattle.run_notes.specs.Inputs.{events_in};
 ghost use Rattle.ctrl_serve.specs.RunStops.{HoldsFirst, StopFinds};
 ghost use Rattle.ctrl_serve.specs.UncompactedFolders.{ask_for_compact, spells_compact, CompactsNothing, LeavesOtherSlot};
-ghost use Rattle.ctrl_serve.specs.WorkedStops.{only_ann, ann_and_bob, bob_bytes, bob_reply_bytes, no_room_bytes};
-ghost use Rattle.ctrl_serve.specs.WorkedAnswers.{frame_of, reply_at_start, reply_behind, state_after, ann_may_dial, all_may_dial, first_goes, ann_comes_again, two_routers, router_goes, line, ann_asks, middle_closes};
+ghost use Rattle.run_examples.specs.WorkedStops.{only_ann, ann_and_bob, bob_bytes, bob_reply_bytes, no_room_bytes};
+ghost use Rattle.run_examples.specs.WorkedAnswers.{frame_of, reply_at_start, reply_behind, state_after, ann_may_dial, all_may_dial, first_goes, ann_comes_again, two_routers, router_goes, line, ann_asks, middle_closes};
 ghost use Rattle.reply_codec.specs.ReplyFrame.{reply_frame};
 
 /// Words of the command line.
