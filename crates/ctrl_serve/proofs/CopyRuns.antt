@@ -1,7 +1,7 @@
 -- How the opening of the folder and the following of the frames make up a run of `follow`.
-use Rattle.std.specs.Prelude.{IsSomeAnd, IsTrue}
+use Rattle.std.specs.Prelude.{⊤, IsSomeAnd, IsTrue}
 use Rattle.std.specs.declared.option.Option.{Option}
-use Rattle.std.proofs.Common.{◌≡◌, ◌⊎◌, inl, inr, ℕ, zero, suc, Bool, true, List, [], length, take, Some, None, Ok, refl, sym, ap, ap₂, ◌∙◌, subst, arith}
+use Rattle.std.proofs.Common.{◌≡◌, ◌⊎◌, inl, inr, ℕ, zero, suc, Bool, true, false, List, length, take, Some, None, Ok, refl, sym, ap, ap₂, ◌∙◌, subst, arith}
 use Rattle.ziti_outside.specs.declared.desk.Part.TheVariants.{Mark}
 use Rattle.ziti_outside.specs.Images.{Image, After}
 use Rattle.ziti_outside.specs.Moments.{Elapses, Leaves}
@@ -145,7 +145,7 @@ copies_on {D = D} o form bounds most k f later source source_now desk mid now st
     let opening : IsTrue o.tells → Leaves o.seen o.stopped desk mid (Opening (o.stopped desk).images k.state) =
     λ told. Leaves-weaker _ (left told) (opening_of bounds ⊤ before (o.stopped desk).images k.state (opens told)) in
     let to : IsTrue o.tells → (i : Image) → OpensToState i k.state → IsSomeAnd m (OpensToCopy i) =
-    λ told i open. told_copy (λ (x : Option Copy). IsSomeAnd x (OpensToCopy i)) o.tells middle f told (to_copy k (copy_of (records_in middle) f) i rows open) in
+    λ told i opened. told_copy (λ (x : Option Copy). IsSomeAnd x (OpensToCopy i)) o.tells middle f told (to_copy k (copy_of (records_in middle) f) i rows opened) in
     let finds : IsTrue o.tells → Elapses (o.stopped mid) (o.stopped now) (StopFinds form (follower f.stored.bounds) m (events_in form used) (o.seen mid).said) =
     λ told. subst (λ (said : Option (List ℕ)). Elapses (o.stopped mid) (o.stopped now) (StopFinds form (follower f.stored.bounds) m (events_in form used) said))
     (told_said true o.tells (o.seen mid) told) (runs.stops refl told) in

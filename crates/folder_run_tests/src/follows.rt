@@ -67,8 +67,7 @@ const ALL_NINTH: &str =
 const COUNT_TWICE: &str =
     r"= \xe8\x03\0\0\x08\0\0\0\x02\0\0\0\0\0\0\0\xe9\x03\0\0\x04\0\0\0\0\0\0\0\xea\x03\0\0\x04\0\0\0\x07\0\0\0\xea\x03\0\0\x04\0\0\0\x01\0\0\0";
 
-const NO_COUNT: &str =
-    r"= \xe8\x03\0\0\x08\0\0\0\x02\0\0\0\0\0\0\0\xe9\x03\0\0\x04\0\0\0\0\0\0\0";
+const NO_COUNT: &str = r"= \xe8\x03\0\0\x08\0\0\0\x02\0\0\0\0\0\0\0\xe9\x03\0\0\x04\0\0\0\0\0\0\0";
 
 const SHORT_SERIAL: &str =
     r"= \xe8\x03\0\0\x04\0\0\0\x02\0\0\0\xe9\x03\0\0\x04\0\0\0\0\0\0\0\xea\x03\0\0\x04\0\0\0\x01\0\0\0";
@@ -194,12 +193,7 @@ const FOLLOWED: [Followed; 20] = [
     (
         ANN,
         "",
-        &[(
-            WHOLE,
-            "9 0 1",
-            ALL_NINTH,
-            r#"{"own":9,"taken":"Took"}"#,
-        )],
+        &[(WHOLE, "9 0 1", ALL_NINTH, r#"{"own":9,"taken":"Took"}"#)],
         r"- HEADER+\x01\x3b\0\0\0\x01\x02\x01\x01\x04\0\0\0\x03\0\0\0\x01\x05\x03\0\0\0\x01\x05\0\0\0\x03ann\0\x01\x05\x03\0\0\0\x02\x05\0\0\0\x03bob\0\x01\x01\x11\x08\0\0\0\x09\0\0\0\0\0\0\0\0 SECOND",
     ),
     (
@@ -208,12 +202,7 @@ const FOLLOWED: [Followed; 20] = [
         &[
             (WHOLE, "1 0 1", A, TOOK_1),
             (NEXT, "2 0 1", B, TOOK_2),
-            (
-                NEXT,
-                "2 0 1",
-                B,
-                r#"{"own":2,"taken":"Repeat"}"#,
-            ),
+            (NEXT, "2 0 1", B, r#"{"own":2,"taken":"Repeat"}"#),
             (WHOLE, "1 0 1", A, r#"{"own":2,"taken":"Repeat"}"#),
         ],
         ANN_AND_BOB,
@@ -316,7 +305,12 @@ fn push_len(bytes: &mut Vec<u8>, part: &[u8]) -> Result<(), AllocError> {
 }
 
 // Puts a frame of the sequence number 7 behind the others.
-fn push_sent(bytes: &mut Vec<u8>, content: u32, headers: &[u8], body: &[u8]) -> Result<(), AllocError> {
+fn push_sent(
+    bytes: &mut Vec<u8>,
+    content: u32,
+    headers: &[u8],
+    body: &[u8],
+) -> Result<(), AllocError> {
     bytes.extend_from_slice(b"\x03\x06\x09\x0c")?;
     bytes.extend_from_slice(&content.to_le_bytes())?;
     bytes.extend_from_slice(b"\x07\0\0\0")?;
@@ -439,7 +433,13 @@ fn copies(
     let shipped = said_by(rt, alloc, &["ship", "0"], parts_in(leader))?;
     let counts = said_by(rt, alloc, &["audit"], parts_in(leader))?;
     let mut desk = desk_on(alloc, EMPTY, &[])?;
-    let status = run_words(alloc, &["follow"], How::AMPLE, shipped.as_slice(), &mut desk)?;
+    let status = run_words(
+        alloc,
+        &["follow"],
+        How::AMPLE,
+        shipped.as_slice(),
+        &mut desk,
+    )?;
     is_status(rt, "copies", status, Status::Done);
     has_parts(rt, "copies", &desk, parts_in(copy));
     let copied = said_by(rt, alloc, &["audit"], parts_of(&desk))?;

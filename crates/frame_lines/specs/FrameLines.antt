@@ -43,7 +43,7 @@ is_header key len h = (h.key == key) && (length h.value == len)
 abbrev pub wide_of : List ℕ → ℕ
 wide_of v =
     from_le_bytes w64 (
-      slice_index v 0 ∷ slice_index v 1 ∷ slice_index v 2 ∷ slice_index v 3 ∷ slice_index v 4 ∷ slice_index v 5 ∷ slice_index v 6 ∷ slice_index v 7 ∷ []
+    slice_index v 0 ∷ slice_index v 1 ∷ slice_index v 2 ∷ slice_index v 3 ∷ slice_index v 4 ∷ slice_index v 5 ∷ slice_index v 6 ∷ slice_index v 7 ∷ []
     )
 
 -- The serial of a batch, the number of a piece of it and how many pieces it has, where the headers are exactly these three.

@@ -132,11 +132,7 @@ fn sort_word(content: u32) -> &'static str
 }
 
 // The line of a frame that carries a piece with these numbers in its headers.
-fn piece_words(
-    alloc: Global,
-    frame: &Frame,
-    piece: (u64, (u32, u32)),
-) -> Result<String, AllocError>
+fn piece_words(alloc: Global, frame: &Frame, piece: (u64, (u32, u32))) -> Result<String, AllocError>
     ensures { IfOk result (λ words. string_bytes words ≡ piece_words frame.now piece) }
 {
     let sequence = frame.sequence;

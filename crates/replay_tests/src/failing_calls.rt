@@ -60,12 +60,7 @@ const TRIALS: [Trial; 12] = [
     ),
     (&["compact"], ["OLD_ANN - FIRST", "-", "-"], [1, 1], [12, 0]),
     // What is followed: ann's record on an empty folder, bob's on hers, and one of both in its place, which is written to the other slot.
-    (
-        &["follow"],
-        ["- - -", "SHIP_ANN", "TOOK_1"],
-        [0, 1],
-        [8, 1],
-    ),
+    (&["follow"], ["- - -", "SHIP_ANN", "TOOK_1"], [0, 1], [8, 1]),
     (
         &["follow"],
         ["ANN_SLOT - FIRST", "SHIP_BOB", "TOOK_2"],

@@ -146,7 +146,13 @@ fn stops_at(
     assert!(rt; moment <= desk.moments());
     let (images, taken) = desk.stopped(alloc, moment, choice)?;
     holds(rt, trial.word, desk.said().starts_with(taken.as_slice()));
-    goes_on(rt, alloc, parts_in(&images), taken.len() / trial.reply.max(1), trial)
+    goes_on(
+        rt,
+        alloc,
+        parts_in(&images),
+        taken.len() / trial.reply.max(1),
+        trial,
+    )
 }
 
 fn stops_by(
