@@ -1,2 +1,3 @@
 pub mod WorkedAnswers
 pub mod WorkedStops
+pub mod WorkedCopies

@@ -2,7 +2,7 @@ ghost use Rattle.std.specs.Prelude.{◌≡◌, ◌^◌, [], ◌∷◌, ◌++◌,
 ghost use Rattle.ziti_outside.specs.Images.{Image};
 ghost use Rattle.channel_frame.specs.FrameSpelling.{spelling};
 ghost use Rattle.command_codec.specs.BodyMeaning.{meaning};
-ghost use Rattle.channel_frame.specs.WorkedFrames.{ann_bytes, reply_bytes, cut_bytes, unmarked_bytes};
+ghost use Rattle.channel_frame.specs.WorkedFrames.{ann_bytes, ann_frame, reply_bytes, cut_bytes, unmarked_bytes};
 ghost use Rattle.ctrl_model.specs.declared.kinds.Who.TheVariants.{Admin};
 ghost use Rattle.ctrl_model.specs.declared.refusals.Denial.TheVariants as denial;
 ghost use Rattle.ctrl_model.specs.declared.refusals.Field.TheVariants as field;
@@ -14,6 +14,8 @@ ghost use Rattle.row_store.specs.OpenedStates.{OpensToState};
 ghost use Rattle.row_store.specs.WorkedStores.{three_parts};
 ghost use Rattle.ctrl_keep.specs.WorkedMachines.{at_most, machine_at, marked};
 ghost use Rattle.ctrl_serve.specs.CommandLine.{form_of, number_below};
+ghost use Rattle.ctrl_serve.specs.CopyViews.{payloads_in};
+ghost use Rattle.ctrl_serve.specs.FollowWords.{follower};
 ghost use Rattle.ctrl_serve.specs.declared.command_line.Form.TheVariants.{Dry, Replay, Audit, Compact, Load, Advise, Ship, Follow};
 ghost use Rattle.session_mux.specs.declared.sessions.Form.TheVariants.{Plain, Trace};
 ghost use Rattle.session_mux.specs.WorkedTraces.{one_session, two_sessions, kind_five, one_faulty};
@@ -23,6 +25,7 @@ ghost use Rattle.ctrl_serve.specs.Loads.{counts_line};
 ghost use Rattle.run_notes.specs.Inputs.{events_in};
 ghost use Rattle.ctrl_serve.specs.RunStops.{HoldsFirst, StopFinds};
 ghost use Rattle.ctrl_serve.specs.UncompactedFolders.{ask_for_compact, spells_compact, CompactsNothing, LeavesOtherSlot};
+ghost use Rattle.run_examples.specs.WorkedCopies.{bare_copy};
 ghost use Rattle.run_examples.specs.WorkedStops.{only_ann, ann_and_bob, bob_bytes, bob_reply_bytes, no_room_bytes};
 ghost use Rattle.run_examples.specs.WorkedAnswers.{frame_of, reply_at_start, reply_behind, state_after, ann_may_dial, all_may_dial, first_goes, ann_comes_again, two_routers, router_goes, line, ann_asks, middle_closes};
 ghost use Rattle.reply_codec.specs.ReplyFrame.{reply_frame};
@@ -207,4 +210,13 @@ pub fn worked_readings()
     ensures half_a_head { is_decided Plain (3 ∷ 6 ∷ 9 ∷ 13 ∷ []) ≡ false }
     ensures session { is_decided Trace one_faulty ≡ false }
     ensures record { is_decided Trace kind_five ≡ true }
+{}
+
+/// The records of a slot of one, of two and of none, and what a follower makes of a frame that ships nothing.
+pub fn worked_following()
+    ensures one { payloads_in (90 ∷ 67 ∷ 84 ∷ 76 ∷ 2 ∷ 0 ∷ 0 ∷ 0 ∷ 1 ∷ 2 ∷ 0 ∷ 0 ∷ 0 ∷ 7 ∷ 8 ∷ 0 ∷ []) ≡ (7 ∷ 8 ∷ []) ∷ [] }
+    ensures two { payloads_in (90 ∷ 67 ∷ 84 ∷ 76 ∷ 2 ∷ 0 ∷ 0 ∷ 0 ∷ 1 ∷ 1 ∷ 0 ∷ 0 ∷ 0 ∷ 7 ∷ 1 ∷ 1 ∷ 0 ∷ 0 ∷ 0 ∷ 8 ∷ 0 ∷ 9 ∷ []) ≡ (7 ∷ []) ∷ (8 ∷ []) ∷ [] }
+    ensures none { payloads_in (90 ∷ 67 ∷ 84 ∷ 76 ∷ 2 ∷ 0 ∷ 0 ∷ 0 ∷ 0 ∷ 1 ∷ 1 ∷ 0 ∷ 0 ∷ 0 ∷ 7 ∷ 0 ∷ []) ≡ [] }
+    ensures stays { (follower (record { slot = 64; mark = 1 })).next Admin ann_frame (Some bare_copy) ≡ Some bare_copy }
+    ensures untold { (follower (record { slot = 64; mark = 1 })).next Admin ann_frame None ≡ None }
 {}
