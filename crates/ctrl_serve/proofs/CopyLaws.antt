@@ -6,7 +6,7 @@ use Rattle.std.specs.declared.option.Option.{Option}
 use Rattle.std.proofs.Common.{◌≡◌, ◌≢◌, ◌⊎◌, inl, inr, ℕ, zero, suc, ◌==◌, ◌<◌, ◌≤◌, Bool, true, false, cond, List, [], ◌∷◌, ◌++◌, length, take, drop, None, Some, refl, sym, ap, ap₂, ◌∙◌, subst, arith, length-append, append_assoc}
 use Rattle.std.proofs.lemmas.List.{take_at, drop_at}
 use Rattle.std.proofs.lemmas.Nat.{from_le_bytes-to_le_bytes_4}
-use Rattle.std.proofs.lemmas.Bool.{false≢true}
+use Rattle.std.proofs.lemmas.Bool.{false≢true, ne_eqb}
 use Rattle.ziti_outside.specs.declared.desk.Part.TheVariants.{Mark}
 use Rattle.ziti_outside.specs.Images.{Image}
 use Rattle.ziti_outside.specs.Moments.{Elapses, Leaves, Now}
@@ -47,12 +47,7 @@ few_payloads (p ∷ ps) = let more = few_payloads ps in omega (arith, length-app
 closed_none : (steps : List ℕ) (gate : ℕ) (more : List ℕ) → gate ≢ 1 → payloads_within steps (gate ∷ more) ≡ []
 closed_none [] gate more closed = refl
 closed_none (step ∷ steps) gate more closed =
-    ap (λ (b : Bool). cond b (take (payload_len more) (drop 4 more) ∷ payloads_within steps (drop (payload_len more) (drop 4 more))) []) (not_one gate closed)
-  where
-    not_one : (n : ℕ) → n ≢ 1 → (n == 1) ≡ false
-    not_one zero other = refl
-    not_one (suc zero) other = absurd (other refl)
-    not_one (suc (suc n)) other = refl
+    ap (λ (b : Bool). cond b (take (payload_len more) (drop 4 more) ∷ payloads_within steps (drop (payload_len more) (drop 4 more))) []) (ne_eqb gate 1 closed)
 
 -- A record is read again, with what comes behind it.
 one_record : (step : ℕ) (steps payload tail : List ℕ) → IsPayload payload → payloads_within (step ∷ steps) (1 ∷ (record_of payload ++ tail)) ≡ payload ∷ payloads_within steps tail

@@ -154,7 +154,7 @@ copies_on {D = D} o form bounds most k f later source source_now desk mid now st
       opens = λ told. told_copy (λ (x : Option Copy). IsSomeAnd x (OpensAsCopy before)) o.tells middle f told
           (opens_as bounds before middle (o.stopped mid).images k f stored none (opens told) holds (stands told) (made told));
       migrates = roomy;
-      serves = serves_behind (seen_by true o.tells (o.seen desk)) (same_said true o.tells calls.replies) calls.notes calls.failed_notes runs.serves;
+      serves = serves_behind (seen_by true o.tells (o.seen desk)) (same_said true o.tells (o.seen desk) (o.seen mid) calls.replies) calls.notes calls.failed_notes runs.serves;
       keeps = λ kept told. let last = runs.last kept in (keeps_machine later _ o.tells after images last.0 last.1.1 told).0;
       found = λ kept told. let last = runs.last kept in (keeps_machine later _ o.tells after images last.0 last.1.1 told).1;
       ahead = λ is told.

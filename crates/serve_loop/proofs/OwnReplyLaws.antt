@@ -19,8 +19,8 @@ pub told_said : (by_folder tells : Bool) (seen : Seen) → IsTrue tells → (see
 told_said by_folder tells seen told = ap (λ (own : Bool). cond own seen.said None) (told_own by_folder tells told)
 
 -- Where no reply was said none was told.
-pub same_said : (by_folder tells : Bool) {before now : Seen} → now.said ≡ before.said → (seen_by by_folder tells now).said ≡ (seen_by by_folder tells before).said
-same_said by_folder tells same = ap (λ (said : Option (List ℕ)). cond (are_its_own by_folder tells) said None) same
+pub same_said : (by_folder tells : Bool) (before now : Seen) → now.said ≡ before.said → (seen_by by_folder tells now).said ≡ (seen_by by_folder tells before).said
+same_said by_folder tells before now same = ap (λ (said : Option (List ℕ)). cond (are_its_own by_folder tells) said None) same
 
 -- Bytes that were taken, where they are the machine's.
 took_if : (own : Bool) (before now : Option (List ℕ)) (bytes : List ℕ) → (own ≡ true → Took before now bytes) → Took (cond own before None) (cond own now None) bytes

@@ -25,7 +25,7 @@ returns-clause-answers g c =
     let used : List ℕ = take c.args.most ends.takes.taken in
     let all = all_so c.args.form used c.serve_pieces.new.mux ends.answers.answered ends.answers.goes (none_left c.serve_pieces.new.mux c.in_ok-stop.stop.bad c.in_ok-stop.ensures.end) in (
       input_ends {now = record { failed = c.tell_ending.new.notes.failed; desk = seen_by g.A.AnswersFrames.by_folder g.D.Desk.tells (g.D.Desk.seen c.tell_ending.new.desk) }} c.in_ok-stop.stop.end c.in_ok-stop.stop.bad _ (ap (λ (reads : Image). g.A.AnswersFrames.machine g.D.Desk.tells reads c.serve_pieces.new.answerer) c.tell_ending.ensures.others.parts)
-          ends c.in_ok-stop.ensures.end c.tell_ending.ensures.stops (same_said g.A.AnswersFrames.by_folder g.D.Desk.tells c.tell_ending.ensures.others.replies) c.in_ok-tell_ending.ensures.status (more_by g.A.AnswersFrames.by_folder g.D.Desk.tells c.serve_pieces.new.notes.failed c.tell_ending.new.notes.failed _ (g.D.Desk.seen c.serve_pieces.new.desk) (g.D.Desk.seen c.tell_ending.new.desk) c.in_ok-tell_ending.ensures.noted),
+          ends c.in_ok-stop.ensures.end c.tell_ending.ensures.stops (same_said g.A.AnswersFrames.by_folder g.D.Desk.tells (g.D.Desk.seen c.serve_pieces.new.desk) (g.D.Desk.seen c.tell_ending.new.desk) c.tell_ending.ensures.others.replies) c.in_ok-tell_ending.ensures.status (more_by g.A.AnswersFrames.by_folder g.D.Desk.tells c.serve_pieces.new.notes.failed c.tell_ending.new.notes.failed _ (g.D.Desk.seen c.serve_pieces.new.desk) (g.D.Desk.seen c.tell_ending.new.desk) c.in_ok-tell_ending.ensures.noted),
       λ some told. subst (λ (es : List Event). FollowsEvents answerer es (known_in c.args.form) (g.A.AnswersFrames.machine g.D.Desk.tells (g.D.Desk.seen c.args.desk.now).reads c.args.answerer.now) (g.D.Desk.seen c.args.desk.now).reads (g.D.Desk.seen c.tell_ending.new.desk).reads) all
           (subst (λ (i : Image). FollowsEvents answerer ends.answers.answered (known_in c.args.form) (g.A.AnswersFrames.machine g.D.Desk.tells (g.D.Desk.seen c.args.desk.now).reads c.args.answerer.now) (g.D.Desk.seen c.args.desk.now).reads i) (sym c.tell_ending.ensures.others.parts) (c.in_ok-stop.ensures.ok.1 some told)),
     )
@@ -62,7 +62,7 @@ returns-in_err-tell_ending-clause-answers g c =
     let left = c.in_err-tell_ending.ensures.unnoted in
     let p = err_from_is_err_and c.from_residual-in_err-tell_ending.result c.from_residual-in_err-tell_ending.ensures.1 in
     rw p.1 (rw p.2 (input_starved {now = record { failed = c.tell_ending.new.notes.failed; desk = seen_by g.A.AnswersFrames.by_folder g.D.Desk.tells (g.D.Desk.seen c.tell_ending.new.desk) }} c.in_ok-stop.stop.end c.in_ok-stop.stop.bad (g.A.AnswersFrames.machine g.D.Desk.tells (g.D.Desk.seen c.tell_ending.new.desk).reads c.serve_pieces.new.answerer)
-    c.in_ok-stop.ensures.ok.0 c.in_ok-stop.ensures.end c.tell_ending.ensures.stops c.in_err-tell_ending.ensures.memory (same_said g.A.AnswersFrames.by_folder g.D.Desk.tells c.tell_ending.ensures.others.replies)
+    c.in_ok-stop.ensures.ok.0 c.in_ok-stop.ensures.end c.tell_ending.ensures.stops c.in_err-tell_ending.ensures.memory (same_said g.A.AnswersFrames.by_folder g.D.Desk.tells (g.D.Desk.seen c.serve_pieces.new.desk) (g.D.Desk.seen c.tell_ending.new.desk) c.tell_ending.ensures.others.replies)
     (record { failed = ap (λ (x : Notes). x.failed) left.0; notes = left.1.notes; failed_notes = left.1.failed_notes })))
 
 pub returns-clause-alone : goal.returns-clause-alone

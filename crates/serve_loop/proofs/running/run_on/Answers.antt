@@ -27,7 +27,7 @@ pub returns-in-Err-clause-runs : goal.returns-in-Err-clause-runs
 returns-in-Err-clause-runs g c =
     let t = c.tell_cut_behind.ensures in
     runs_at (ap (λ (reads : Image). g.A.AnswersFrames.machine g.D.Desk.tells reads c.serve_input.new.answerer) t.others.parts) (runs_calm c.new-notes.ensures (cut_runs c.in-Err.cut (record { failed = c.tell_cut_behind.new.notes.failed; desk = seen_by g.A.AnswersFrames.by_folder g.D.Desk.tells (g.D.Desk.seen c.tell_cut_behind.new.desk) }) c.tell_cut_behind.result t.status c.in-Err.ensures.answers c.new-notes.ensures
-    (λ is. let on = c.in-Err.ensures.unsaid is in (on.0, ready_behind _ g.D.Desk.tells _ _ _ _ t.others.parts t.others.found on.1)) (same_said g.A.AnswersFrames.by_folder g.D.Desk.tells t.others.replies) t.stops (more_by g.A.AnswersFrames.by_folder g.D.Desk.tells c.serve_input.new.notes.failed c.tell_cut_behind.new.notes.failed _ (g.D.Desk.seen c.serve_input.new.desk) (g.D.Desk.seen c.tell_cut_behind.new.desk) t.noted)))
+    (λ is. let on = c.in-Err.ensures.unsaid is in (on.0, ready_behind _ g.D.Desk.tells _ _ _ _ t.others.parts t.others.found on.1)) (same_said g.A.AnswersFrames.by_folder g.D.Desk.tells (g.D.Desk.seen c.serve_input.new.desk) (g.D.Desk.seen c.tell_cut_behind.new.desk) t.others.replies) t.stops (more_by g.A.AnswersFrames.by_folder g.D.Desk.tells c.serve_input.new.notes.failed c.tell_cut_behind.new.notes.failed _ (g.D.Desk.seen c.serve_input.new.desk) (g.D.Desk.seen c.tell_cut_behind.new.desk) t.noted)))
 
 pub returns-in-Err-clause-counts : goal.returns-in-Err-clause-counts
 returns-in-Err-clause-counts g c =
