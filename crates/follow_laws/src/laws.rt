@@ -1,15 +1,13 @@
 ghost use Rattle.std.specs.Prelude.{◌≡◌, ◌<◌, ◌+◌, ℕ, List, [], length, None};
-ghost use Rattle.ziti_outside.specs.Images.{Image};
 ghost use Rattle.std.specs.declared.option.Option.{Option};
 ghost use Rattle.std.specs.List.{AllByRecursion};
 ghost use Rattle.ctrl_model.specs.State.{State};
 ghost use Rattle.channel_frame.specs.declared.frames.Frame.{Frame};
 ghost use Rattle.ship_frames.specs.Pieces.{frames_of_all};
 ghost use Rattle.ship_frames.specs.GatheredPieces.{IsFrontOf};
-ghost use Rattle.row_store.specs.StoredRows.{ReadsAs};
 ghost use Rattle.row_store.specs.declared.bounds.StoreBounds.{StoreBounds};
 ghost use Rattle.ctrl_keep.specs.KeptController.{Controlled, HoldsRows};
-ghost use Rattle.follow_core.specs.FollowedCopies.{Followed, HoldsState, StandsAs};
+ghost use Rattle.follow_core.specs.FollowedCopies.{AreSoughtIn, Followed, HoldsState, serial_in_store};
 ghost use Rattle.follow_core.specs.Following.{Copy, taken_all, copy_after};
 ghost use Rattle.follow_laws.specs.Histories.{IsHistory, rows_at, history_of, IsFrameOf, IsAt, StandsFrom, IsOfHistory, IsWithinLimits, shipped_from};
 
@@ -32,9 +30,9 @@ pub fn frames_in_order_lead_to_the_leader()
         → (copy_after bounds (frames_of_all place (shipped_from states serial count)) c).rows ≡ rows_at states (serial + count) }
 {}
 
-/// A controller that was opened has a store with which its folder can be followed, and a follower that is made of it stands as the folder reads.
+/// A controller that was opened has a store that a follower can be made of, and of a follower that has sought no kept record each is found where it is
+/// sought, so that it stands as the folder reads where its store does.
 pub fn opened_folders_can_be_followed()
     ensures holds { (k : Controlled) → HoldsRows k → HoldsState k.stored }
-    ensures stands { (k : Controlled) (f : Followed) (reads : Image) (images : Image → Type 0) → f.stored ≡ k.stored → f.sought ≡ None
-        → ReadsAs k.stored reads images → StandsAs f reads images }
+    ensures sought { (f : Followed) (records : List (List ℕ)) → f.sought ≡ None → AreSoughtIn records (serial_in_store f.stored) f.sought }
 {}
