@@ -33,8 +33,8 @@ abbrev pub full : Frame → List ℕ
 full f = frame_words f ++ body_words f.body
 
 -- it is no piece of a batch
-plain_line : (content sequence : ℕ) (body : List ℕ) → let f : Frame = record { content = content; sequence = sequence; headers = []; body = body } in line_for f ≡ line_with (words_for f) (body_cause body) body
-plain_line content sequence body =
+unshipped_line : (content sequence : ℕ) (body : List ℕ) → let f : Frame = record { content = content; sequence = sequence; headers = []; body = body } in line_for f ≡ line_with (words_for f) (body_cause body) body
+unshipped_line content sequence body =
     let f : Frame = record { content = content; sequence = sequence; headers = []; body = body } in
     ap (λ (p : Option (ℕ × (ℕ × ℕ))). line_from p f) (no_piece_at ((content == 1900) || (content == 1901)))
   where
@@ -55,7 +55,7 @@ plain_words content sequence body =
 told_at : (content sequence : ℕ) (body : List ℕ) → body_cause body ≡ None → let f : Frame = record { content = content; sequence = sequence; headers = []; body = body } in line_for f ≡ Ok (full f)
 told_at content sequence body told =
     let f : Frame = record { content = content; sequence = sequence; headers = []; body = body } in
-    plain_line content sequence body ∙ ap (λ (w : Option (List ℕ)). line_with w (body_cause body) body) (plain_words content sequence body)
+    unshipped_line content sequence body ∙ ap (λ (w : Option (List ℕ)). line_with w (body_cause body) body) (plain_words content sequence body)
     ∙ ap (λ (c : Option TellCause). line_with (Some (frame_words f)) c body) told
 
 plain_frame : (f : Frame) → f.headers ≡ [] → f ≡ record { content = f.content; sequence = f.sequence; headers = []; body = f.body }
@@ -175,7 +175,7 @@ body_at : (content sequence : ℕ) (body : List ℕ) (o : Option TellCause) (lin
 body_at content sequence body None line is told = refl
 body_at content sequence body (Some why) line is told =
     let f : Frame = record { content = content; sequence = sequence; headers = []; body = body } in
-    let none : line_for f ≡ Err why = plain_line content sequence body ∙ ap (λ (w : Option (List ℕ)). line_with w (body_cause body) body) (plain_words content sequence body)
+    let none : line_for f ≡ Err why = unshipped_line content sequence body ∙ ap (λ (w : Option (List ℕ)). line_with w (body_cause body) body) (plain_words content sequence body)
     ∙ ap (λ (c : Option TellCause). line_with (Some (frame_words f)) c body) is in
     cc
 
