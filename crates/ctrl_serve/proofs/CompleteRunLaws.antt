@@ -1,6 +1,7 @@
 -- What the runs on a folder that opens to a state come to where no call failed but a note.
-use Rattle.std.specs.Prelude.{IsTrue}
-use Rattle.std.proofs.Common.{◌≡◌, ◌⊎◌, inl, inr, ℕ, List, [], ◌∷◌, codes, Bool, None, Some, refl, subst}
+use Rattle.std.specs.Prelude.{IsSomeAnd, IsTrue}
+use Rattle.std.proofs.Common.{◌≡◌, ◌⊎◌, inl, inr, ℕ, List, [], ◌∷◌, codes, Bool, true, false, None, Some, refl, ap, ◌∙◌, subst}
+use Rattle.std.proofs.lemmas.Bool.{false≢true}
 use Rattle.std.specs.declared.option.Option.{Option}
 use Rattle.ziti_outside.specs.Images.{Image}
 use Rattle.ziti_outside.specs.Views.{Outside, Seen, Stopped}
@@ -17,13 +18,20 @@ use Rattle.session_mux.specs.declared.sessions.Form.{Form}
 use Rattle.run_notes.specs.declared.status.Status.{Status}
 use Rattle.run_notes.specs.declared.status.Status.TheVariants.{Done, Usage, BadInput, Truncated, ReadFault, WriteFault, DiskFault, Damaged, NoMemory, InputTooLong, FolderFull}
 use Rattle.ctrl_serve.specs.declared.bounds.Bounds.{Bounds}
-use Rattle.ctrl_serve.specs.declared.command_line.Form.TheVariants.{Replay, Audit, Compact, Advise, Ship}
+use Rattle.ctrl_serve.specs.declared.command_line.Form.TheVariants.{Replay, Audit, Compact, Advise, Ship, Follow}
 use Rattle.ctrl_serve.specs.Loads.{counts_line, IsSaid}
 use Rattle.ctrl_serve.specs.FolderWords.{Compacts, EndsCompaction, Looks}
 use Rattle.ctrl_serve.specs.ShipWords.{SaysShipped, Ships}
 use Rattle.ctrl_serve.specs.Headline.{folder_bounds, taking_of, Taking, StaysClosed, IsUnopened, IsComplete, Refuses, Replays, Runs}
 use Rattle.ctrl_serve.specs.OpenedFolders.{OpensTo}
-use Rattle.ctrl_serve.specs.CompleteRuns.{IsCalm, IsFull, CompletesFrom, ComesOut, ComesOutFrom}
+use Rattle.ctrl_core.specs.KeptFormat.{kept_format}
+use Rattle.row_store.specs.OpenedStates.{byte_rows_of}
+use Rattle.follow_core.specs.Following.{Copy}
+use Rattle.session_mux.specs.declared.sessions.Form.TheVariants.{Plain}
+use Rattle.serve_loop.specs.Answerers.{Answerer, seen_by}
+use Rattle.serve_loop.specs.ServedInputs as loop
+use Rattle.ctrl_serve.specs.FollowWords.{Copies, OpensAsCopy, follower}
+use Rattle.ctrl_serve.specs.CompleteRuns.{IsCalm, IsFull, CompletesCopy, CompletesFrom, ComesOut, ComesOutFrom}
 use Rattle.ctrl_serve.proofs.OpenedMachines.{one_machine_state}
 use Rattle.row_store.proofs.OneStates.{one_state, stateless_opens}
 use Rattle.ctrl_serve.specs.MigratedRuns.{HasRoomToOpen}
@@ -91,6 +99,40 @@ pub replay_is_complete : {S D : Type 0} (o : Outside S D) (bounds : Bounds) (wor
     → (status ≡ NoMemory) ⊎ IsFull (folder_bounds bounds) (o.seen desk).reads status ⊎ CompletesFrom s (taking_of form bounds.input) (folder_bounds bounds) (o.left source) (o.left source_now) (o.seen desk) (o.seen desk_now) status
 replay_is_complete o bounds words form source source_now desk desk_now status s runs told opens takes says disk =
     replayed o (folder_bounds bounds) bounds.input form source source_now desk desk_now status s (runs.replay form refl) told opens
+    (λ r. takes (runs.read_fault r)) (λ w. says (runs.write_fault w)) (λ d. disk (runs.disk_fault d))
+
+-- ---- follow
+
+-- Of a told folder all that is seen is told.
+told_completes : {M : Type 0} (tells : Bool) (taking : Taking) (answerer : Answerer M) (m : M) (a b : Option (List ℕ)) (c d : Seen) (status : Status) → IsTrue tells
+    → loop.IsComplete taking answerer m a b (seen_by true tells c) (seen_by true tells d) status → loop.IsComplete taking answerer m a b c d status
+told_completes true taking answerer m a b c d status told complete = complete
+told_completes false taking answerer m a b c d status told complete = absurd (false≢true told)
+
+from_copy : (s : State) (taking : Taking) (bounds : StoreBounds) (m : Option Copy) (a b : Option (List ℕ)) (c d : Seen) (status : Status) → IsSomeAnd m (OpensAsCopy c.reads) → OpensToState c.reads s → HasRoomToOpen bounds c.reads
+    → loop.IsComplete taking (follower bounds) m a b c d status → (status ≡ NoMemory) ⊎ IsFull bounds c.reads status ⊎ CompletesCopy s taking bounds a b c d status
+from_copy s taking bounds None a b c d status to opens roomy complete = absurd to
+from_copy s taking bounds (Some copy) a b c d status to opens roomy (inl wanting) = inl wanting
+from_copy s taking bounds (Some copy) a b c d status to opens roomy (inr complete) =
+    inr (inr (copy, to, to.rows ∙ ap (byte_rows_of kept_format) (one_machine_state c.reads s to.machine opens to.opens), roomy, complete))
+
+followed : {S D : Type 0} (o : Outside S D) (bounds : StoreBounds) (most : ℕ) (source source_now : S) (desk desk_now : D) (status : Status) (s : State)
+    → Refuses bounds o.tells o.seen o.stopped source source_now desk desk_now status ⊎ Copies (taking_of Plain most) bounds o source source_now desk desk_now status
+    → IsTrue o.tells → OpensToState (o.seen desk).reads s → (status ≡ ReadFault → ⊥) → (status ≡ WriteFault → ⊥) → (status ≡ DiskFault → ⊥)
+    → (status ≡ NoMemory) ⊎ IsFull bounds (o.seen desk).reads status ⊎ CompletesCopy s (taking_of Plain most) bounds (o.left source) (o.left source_now) (o.seen desk) (o.seen desk_now) status
+followed o bounds most source source_now desk desk_now status s (inl closed) told opens read write disk =
+    or_else (starved bounds o.tells (o.seen desk) (o.seen desk_now) status s closed.unopened.why told opens disk)
+followed o bounds most source source_now desk desk_now status s (inr on) told opens read write disk =
+    from_copy s (taking_of Plain most) bounds on.machine (o.left source) (o.left source_now) (o.seen desk) (o.seen desk_now) status (on.opens told) opens (on.migrates told)
+    (told_completes o.tells (taking_of Plain most) (follower bounds) on.machine (o.left source) (o.left source_now) (o.seen desk) (o.seen desk_now) status told (serves_completely status on.serves read write disk))
+
+pub follow_is_complete : {S D : Type 0} (o : Outside S D) (bounds : Bounds) (words : List (List ℕ)) (source source_now : S) (desk desk_now : D) (status : Status) (s : State)
+    → Runs o bounds words (Some Follow) source source_now desk desk_now status
+    → IsTrue o.tells → OpensToState (o.seen desk).reads s → IsCalm (o.faults source) (o.faults source_now) → IsCalm (o.seen desk).say_faults (o.seen desk_now).say_faults
+    → IsCalm (o.seen desk).disk_faults (o.seen desk_now).disk_faults
+    → (status ≡ NoMemory) ⊎ IsFull (folder_bounds bounds) (o.seen desk).reads status ⊎ CompletesCopy s (taking_of Plain bounds.input) (folder_bounds bounds) (o.left source) (o.left source_now) (o.seen desk) (o.seen desk_now) status
+follow_is_complete o bounds words source source_now desk desk_now status s runs told opens takes says disk =
+    followed o (folder_bounds bounds) bounds.input source source_now desk desk_now status s (runs.follow refl) told opens
     (λ r. takes (runs.read_fault r)) (λ w. says (runs.write_fault w)) (λ d. disk (runs.disk_fault d))
 
 -- ---- audit and advise

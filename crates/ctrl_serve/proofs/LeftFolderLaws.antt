@@ -30,7 +30,7 @@ use Rattle.run_notes.specs.NotedLines.{NotesLines}
 use Rattle.run_notes.specs.Notes.{damaged_note}
 use Rattle.ctrl_serve.specs.declared.bounds.Bounds.{Bounds}
 use Rattle.ctrl_serve.specs.declared.command_line.Form as command
-use Rattle.ctrl_serve.specs.declared.command_line.Form.TheVariants.{Dry, Replay, Audit, Compact, Load, Advise, Ship}
+use Rattle.ctrl_serve.specs.declared.command_line.Form.TheVariants.{Dry, Replay, Audit, Compact, Load, Advise, Ship, Follow}
 use Rattle.ctrl_serve.specs.CommandLine.{form_of}
 use Rattle.ctrl_serve.proofs.AdviseWords.{advise_words}
 use Rattle.ctrl_serve.specs.FolderWords.{compaction, Compacts}
@@ -242,6 +242,8 @@ nothing_taken o bounds words (Some Compact) source source_now desk desk_now aske
 nothing_taken o bounds words (Some (Load number)) source source_now desk desk_now asked runs = runs.load_takes_nothing number refl
 nothing_taken o bounds words (Some Advise) source source_now desk desk_now asked runs = runs.advise_takes_nothing refl
 nothing_taken o bounds words (Some (Ship from)) source source_now desk desk_now asked runs = runs.ship_takes_nothing from refl
+nothing_taken o bounds words (Some Follow) source source_now desk desk_now asked runs =
+    elim (runs.follow refl) as (λ _. source_now ≡ source) [ inl closed ↦ closed.takes_nothing | inr on ↦ absurd on.serves.says ]
 
 -- And the folder was not opened, unless it is not told and was shipped.
 pub record StaysShut {D : Type 0} (tells : Bool) (seen : D → Seen) (stopped : D → Stopped) (desk desk_now : D) : Type 0 where
@@ -271,6 +273,8 @@ stays_shut o bounds words (Some (Ship from)) source source_now desk desk_now ask
       | inl closed ↦ record { within = None; unopened = closed }
       | inr on ↦ absurd (on.notes.2 (told from refl))
     ]
+stays_shut o bounds words (Some Follow) source source_now desk desk_now asked told runs =
+    elim (runs.follow refl) as (λ _. StaysShut o.tells o.seen o.stopped desk desk_now) [ inl closed ↦ record { within = Some (folder_bounds bounds); unopened = closed.unopened } | inr on ↦ absurd on.serves.says ]
 
 -- Of such a folder nothing was said, or whole frames of what it was found to open to.
 pub frames_said : {D : Type 0} {seen : D → Seen} {stopped : D → Stopped} (tells : Bool) (from : ℕ) (desk desk_now : D)

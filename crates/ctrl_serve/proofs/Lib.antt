@@ -18,6 +18,8 @@ pub mod ClosedFolders
 pub mod GrantedRuns
 pub mod UncompactedRuns
 pub mod ReplayLaws
+mod CopyLaws
+mod CopyRuns
 pub mod FolderLaws
 pub mod ShipLaws
 pub mod AcknowledgedLaws

@@ -35,11 +35,11 @@ use Rattle.ctrl_core.specs.KeptFormat.{kept_format}
 abbrev machine_at : State → ℕ → ℕ → Machine
 machine_at s end mark = record { state = s; place = Some (record { end = end; mark = mark }) }
 
-abbrev place_at : ℕ → ℕ → Option Place
+abbrev pub place_at : ℕ → ℕ → Option Place
 place_at end mark = Some (record { end = end; mark = mark })
 
 -- The folder of a kept controller stands for its batches in the kept format.
-abbrev kept_stands : (k : Controlled) (reads : Image) (images : Image → Type 0) → HoldsRows k → (held : ReadsAs k.stored reads images) → Stands kept_format reads held.kept.batches
+abbrev pub kept_stands : (k : Controlled) (reads : Image) (images : Image → Type 0) → HoldsRows k → (held : ReadsAs k.stored reads images) → Stands kept_format reads held.kept.batches
 kept_stands k reads images holds held = subst (λ (f : Format). Stands f reads held.kept.batches) holds.format held.kept.stands
 
 abbrev kept_give : (k : Controlled) (reads : Image) (images : Image → Type 0) → HoldsRows k → (held : ReadsAs k.stored reads images) → Give kept_format held.kept.batches (byte_rows_of kept_format k.state)
@@ -81,19 +81,19 @@ no_rows : (f : Format) (batches : List (List ℕ)) (rows : ByteRows) → batches
 no_rows f batches rows none give = subst (λ (b : List (List ℕ)). Give f b rows) none give
 
 -- With an empty mark an image opens to the state at the start alone.
-opens_to_start : (image : Image) (s : State) → length (image Mark) ≡ 0 → OpensToState image s → s ≡ start
+pub opens_to_start : (image : Image) (s : State) → length (image Mark) ≡ 0 → OpensToState image s → s ≡ start
 opens_to_start image s empty opens =
     let none : opens.rows.batches ≡ [] = subst (λ (n : ℕ). StandsBy n opens.format image opens.rows.batches) empty opens.rows.stands in
     same_from_spelled opens.format s start opens.valid start_valid opens.has (start_has opens.format)
     (no_rows opens.format opens.rows.batches (byte_rows_of opens.format s) none opens.rows.give ∙ sym (start_rows opens.format))
 
 -- A created folder stands for no batches.
-created_end : (old reads : Image) (batches : List (List ℕ)) → IsCreated kept_format old reads → Stands kept_format reads batches → slot_end batches ≡ slot_end []
-created_end old reads batches made stands =
+pub created_none : (old reads : Image) (batches : List (List ℕ)) → IsCreated kept_format old reads → Stands kept_format reads batches → batches ≡ []
+created_none old reads batches made stands =
     let slot : Slot kept_format (reads Zero) batches = subst (λ (n : ℕ). StandsBy n kept_format reads batches) (ap length made.mark) stands in
     let first : Slot kept_format (reads Zero) [] = record { gate = 0; more = _; split = made.first; closed = λ e. absurd (omega (arith, e)); short = tt } in
     let same = one_slot kept_format kept_format (reads Zero) batches [] slot first in
-    ap slot_end same.1
+    same.1
 
 -- A folder that keeps a machine is none of the first format.
 pub Two≢One : kept_format ≡ formats.One → ⊥
@@ -125,7 +125,7 @@ migrated_to bounds image reads m keeps migrates made =
 opens_as : (bounds : StoreBounds) (mark : ℕ) (image reads : Image) (images : Image → Type 0) (k : Controlled) → length (image Mark) ≡ mark → OpensToState image k.state → HoldsRows k
     → ReadsAs k.stored reads images → Opens kept_format mark image reads ⊎ (Migrates bounds image k.state × IsMigrated k.state image reads) → OpensBy mark image (machine_of k)
 opens_as bounds zero image reads images k is opens holds held (inl made) =
-    let end : k.stored.end ≡ slot_end [] = held.kept.end ∙ created_end image reads held.kept.batches made (kept_stands k reads images holds held) in
+    let end : k.stored.end ≡ slot_end [] = held.kept.end ∙ ap slot_end (created_none image reads held.kept.batches made (kept_stands k reads images holds held)) in
     let mark : k.stored.mark ≡ 1 = sym held.kept.mark ∙ ap length made.mark in
     ap₂ (machine_at k.state) end mark ∙ ap (λ (s : State). machine_at s (slot_end []) 1) (opens_to_start image k.state is opens)
 opens_as bounds zero image reads images k is opens holds held (inr (migrates, made)) = absurd (omega (arith, is, migrates.opens.some))

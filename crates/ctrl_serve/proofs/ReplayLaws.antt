@@ -28,9 +28,10 @@ use Rattle.run_notes.specs.declared.status.Status.TheVariants.{ReadFault, WriteF
 use Rattle.run_notes.specs.Inputs.{events_in}
 use Rattle.run_notes.specs.NotedLines.{RisesOnce}
 use Rattle.run_notes.proofs.NoteLaws.{notes_from}
-use Rattle.serve_loop.specs.Answerers.{GoesOn, IsReady}
+use Rattle.serve_loop.specs.Answerers.{Answerer, GoesOn, IsReady}
 use Rattle.serve_loop.specs.Failures.{TakesUntilFailure}
 use Rattle.serve_loop.specs.Pieces.{intake_of, passage_of}
+use Rattle.serve_loop.specs.ServedInputs as loop
 use Rattle.serve_loop.specs.ServedInputs.{RunsOn}
 use Rattle.serve_loop.proofs.FailureLaws.{takes_none}
 use Rattle.serve_loop.proofs.IntakeLaws.{write_calm, disk_calm}
@@ -106,7 +107,7 @@ keeps_machine k m tells reads images is ready told =
 
 -- What the loop says of such a run.
 pub kept_runs : {S D : Type 0} (o : Outside S D) (form : Form) (most : ℕ) (k later : Controlled) (source source_now : S) (desk desk_now : D) (status : Status)
-    → RunsOn (intake_of form most controller (kept_serving k) o.tells) (passage_of (o.left source) (o.left source_now) false (o.seen desk) (o.stopped desk) (o.stopped desk_now))
+    → RunsOn (intake_of form most controller (kept_serving k) (machine_of k) o.tells) (passage_of (o.left source) (o.left source_now) false (o.seen desk) (o.stopped desk) (o.stopped desk_now))
     (machine_of later) (GoesOn (kept_serving k) (kept_serving later) × IsReady (kept_needs later) o.tells (o.seen desk_now).reads (o.stopped desk_now).images) (o.seen desk_now) status
     → RunsKept (taking_of form most) k o source source_now desk desk_now status
 kept_runs o form most k later source source_now desk desk_now status runs =
@@ -132,10 +133,10 @@ started_serves core most l m d e status is s =
 
 -- ---- the run on the folder
 
--- What was said and noted since a desk that had said and noted the same.
-abbrev serves_from : {taking : Taking} (bounds : StoreBounds) {m : Machine} {l r : Option (List ℕ)} {mid now : Seen} {status : Status} (desk : Seen)
-    → mid.said ≡ desk.said → mid.noted ≡ desk.noted → mid.note_faults ≡ desk.note_faults → Serves taking bounds m l r mid now status → Serves taking bounds m l r desk now status
-serves_from bounds {mid = mid} {now = now} desk replies noted failed s = record {
+-- What was said and noted since a desk that had said and noted the same, whoever answers.
+abbrev pub serves_behind : {M : Type 0} {taking : Taking} {answerer : Answerer M} {m : M} {l r : Option (List ℕ)} {mid now : Seen} {status : Status} (desk : Seen)
+    → mid.said ≡ desk.said → mid.noted ≡ desk.noted → mid.note_faults ≡ desk.note_faults → loop.Serves taking answerer m l r mid now status → loop.Serves taking answerer m l r desk now status
+serves_behind {mid = mid} {now = now} desk replies noted failed s = record {
   taken = s.taken;
   gave = s.gave;
   few = s.few;
@@ -153,7 +154,7 @@ serves_from bounds {mid = mid} {now = now} desk replies noted failed s = record 
 }
 
 -- What a stop within the opening may leave.
-opening_of : (bounds : StoreBounds) (A : Type 0) (reads : Image) (images : Image → Type 0) (s : State) → OpensToState reads s → (image : Image)
+pub opening_of : (bounds : StoreBounds) (A : Type 0) (reads : Image) (images : Image → Type 0) (s : State) → OpensToState reads s → (image : Image)
     → After (StandsAsBefore kept_format) images image ⊎ ((u : State) × (A × Migrates bounds reads u) × OpensToState image u) → Opening images s image
 opening_of bounds A reads images s opens image (inl p) = inl p
 opening_of bounds A reads images s opens image (inr (u, (may, migrates), found)) =
@@ -181,7 +182,7 @@ replays_on o form bounds most k source source_now desk mid now status opens stan
       placed = refl;
       opens = λ told. opens_by bounds (length (before Mark)) before middle (o.stopped mid).images k refl (opens told) holds (stands told) (made told);
       migrates = roomy;
-      serves = serves_from k.stored.bounds (o.seen desk) calls.replies calls.notes calls.failed_notes runs.serves;
+      serves = serves_behind (o.seen desk) calls.replies calls.notes calls.failed_notes runs.serves;
       keeps = runs.keeps;
       found = runs.found;
       stands = λ kept told batches. opened_stands_for form k.stored.bounds bounds (machine_of k) before middle after used batches (keeps told) (made told) (runs.follows kept told);

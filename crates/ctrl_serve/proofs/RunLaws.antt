@@ -18,7 +18,7 @@ use Rattle.ctrl_serve.specs.declared.bounds.Bounds.{Bounds}
 use Rattle.ctrl_serve.specs.declared.command_line.Form as command
 use Rattle.session_mux.specs.declared.sessions.Form.{Form}
 use Rattle.session_mux.specs.declared.sessions.Form.TheVariants.{Plain}
-use Rattle.ctrl_serve.specs.declared.command_line.Form.TheVariants.{Dry, Replay, Audit, Compact, Load, Advise, Ship}
+use Rattle.ctrl_serve.specs.declared.command_line.Form.TheVariants.{Dry, Replay, Audit, Compact, Load, Advise, Ship, Follow}
 use Rattle.run_notes.specs.declared.status.Status.{Status}
 use Rattle.run_notes.specs.declared.status.Status.TheVariants.{Done, Usage, BadInput, Truncated, ReadFault, WriteFault, DiskFault, Damaged, NoMemory, InputTooLong, FolderFull}
 use Rattle.ctrl_serve.specs.CommandLine.{reads_input}
@@ -26,6 +26,7 @@ use Rattle.run_notes.specs.NotedLines.{FindsNoMore, RisesOnce, NotesLines}
 use Rattle.ctrl_serve.specs.FrameAnswer.{no_bounds, alone}
 use Rattle.ctrl_serve.specs.Headline.{OnlySaysAndNotes, folder_bounds, taking_of, Serves, Taking, IsLeftAlone, IsUnopened, StaysClosed, Refuses, Replays, Runs}
 use Rattle.ctrl_serve.specs.FolderWords.{Advises, Audits, Compacts, EndsCompaction, Looks}
+use Rattle.ctrl_serve.specs.FollowWords.{Copies}
 use Rattle.ctrl_serve.specs.ShipWords.{SaysShipped, Ships}
 use Rattle.ctrl_serve.specs.Loads.{counts_line, state_of_load, SaysOneLine, IsSaid}
 use Rattle.run_notes.specs.Notes.{usage_note}
@@ -51,6 +52,7 @@ asked_form of (Some Compact) = of
 asked_form of (Some (Load number)) = of
 asked_form of (Some Advise) = of
 asked_form of (Some (Ship from)) = of
+asked_form of (Some Follow) = of
 
 same_form : (of other : Form) → ◌≡◌ {A = Option command.Form} (Some (Replay of)) (Some (Replay other)) → of ≡ other
 same_form of other e = ap (asked_form of) e
@@ -103,6 +105,7 @@ dry_runs o bounds words form source source_now desk desk_now status is serves co
   ship_takes_nothing = λ from e. cc;
   ship_changes_nothing = λ from e. cc;
   ship_complete = λ from e. cc;
+  follow = λ e. cc;
   compact = λ e. cc;
   compact_takes_nothing = λ e. cc;
   compact_says_nothing = λ e. cc;
@@ -171,6 +174,67 @@ replay_runs o of bounds words form source source_now desk desk_now status is rep
       ship_takes_nothing = λ from e. cc;
       ship_changes_nothing = λ from e. cc;
       ship_complete = λ from e. cc;
+      follow = λ e. cc;
+      compact = λ e. cc;
+      compact_takes_nothing = λ e. cc;
+      compact_says_nothing = λ e. cc;
+      room = room;
+    }
+
+-- A run that follows, on a folder which was not opened or from which the run went on.
+follows_status : {S D : Type 0} (o : Outside S D) {taking : Taking} {bounds : StoreBounds} (source source_now : S) (desk desk_now : D) (status : Status)
+    → Refuses bounds o.tells o.seen o.stopped source source_now desk desk_now status ⊎ Copies taking bounds o source source_now desk desk_now status
+    → (status ≡ Usage → ⊥) × (status ≡ Done → IsAtEnd (o.left source_now))
+follows_status o {bounds = bounds} source source_now desk desk_now status (inl closed) =
+    let none = closed_status (Some bounds) o.tells _ _ status closed.unopened.why in (none.0, λ done. absurd (none.1 done))
+follows_status o source source_now desk desk_now status (inr on) =
+    (serves_no_usage on.serves, serves_to_end on.serves)
+
+pub follow_runs : {S D : Type 0} (o : Outside S D) (bounds : Bounds) (words : List (List ℕ)) (form : Option command.Form) (source source_now : S) (desk desk_now : D) (status : Status) → form ≡ Some Follow
+    → Refuses (folder_bounds bounds) o.tells o.seen o.stopped source source_now desk desk_now status
+    ⊎ Copies (taking_of Plain bounds.input) (folder_bounds bounds) o source source_now desk desk_now status
+    → CountsFaults o.left o.faults o.seen source source_now desk desk_now status
+    → HoldsRoom o.tells (folder_bounds bounds).slot o.seen o.stopped desk desk_now
+    → Runs o bounds words form source source_now desk desk_now status
+follow_runs o bounds words form source source_now desk desk_now status is follows counts room =
+    let at : (status ≡ Usage → ⊥) × (status ≡ Done → IsAtEnd (o.left source_now)) = follows_status o source source_now desk desk_now status follows in
+    record {
+      usage = (λ u. absurd (at.0 u), λ n. cc);
+      usage_takes_nothing = λ n. cc;
+      usage_notes_alone = λ n. cc;
+      usage_changes_nothing = λ n. cc;
+      usage_note = λ n. cc;
+      read_fault = counts.read_fault;
+      write_fault = counts.write.rose;
+      failed_take = counts.failed_take;
+      failed_say = counts.write.calm;
+      read_faults_once = counts.read_faults_once;
+      say_faults_once = counts.write.counted;
+      disk_fault = counts.disk.rose;
+      failed_disk = counts.disk.calm;
+      disk_faults_once = counts.disk.counted;
+      note_faults_once = counts.note_faults_once;
+      takes_until_failure = counts.takes_until_failure;
+      dry = λ e. cc;
+      dry_says_and_notes_alone = λ e. cc;
+      complete = λ e. cc;
+      read_to_the_end = λ asked e reads. at.1;
+      replay = λ of e. cc;
+      load = λ number e. cc;
+      load_takes_nothing = λ number e. cc;
+      load_says_and_notes_alone = λ number e. cc;
+      load_complete = λ number e. cc;
+      audit = λ e. cc;
+      audit_takes_nothing = λ e. cc;
+      audit_changes_nothing = λ e. cc;
+      advise = λ i s w e. cc;
+      advise_takes_nothing = λ e. cc;
+      advise_changes_nothing = λ e. cc;
+      ship = λ from e. cc;
+      ship_takes_nothing = λ from e. cc;
+      ship_changes_nothing = λ from e. cc;
+      ship_complete = λ from e. cc;
+      follow = λ e. follows;
       compact = λ e. cc;
       compact_takes_nothing = λ e. cc;
       compact_says_nothing = λ e. cc;
@@ -217,6 +281,7 @@ usage_runs o bounds words form source desk desk_now is others more note counted 
   ship_takes_nothing = λ from e. cc;
   ship_changes_nothing = λ from e. cc;
   ship_complete = λ from e. cc;
+  follow = λ e. cc;
   compact = λ e. cc;
   compact_takes_nothing = λ e. cc;
   compact_says_nothing = λ e. cc;
@@ -293,6 +358,7 @@ load_runs o bounds words form number source desk desk_now status is says write c
       ship_takes_nothing = λ from e. cc;
       ship_changes_nothing = λ from e. cc;
       ship_complete = λ from e. cc;
+      follow = λ e. cc;
       compact = λ e. cc;
       compact_takes_nothing = λ e. cc;
       compact_says_nothing = λ e. cc;
@@ -310,6 +376,7 @@ is_look Compact = false
 is_look (Load number) = false
 is_look Advise = true
 is_look (Ship from) = true
+is_look Follow = false
 
 -- It reads no input, and is no word that does not look.
 look_reads_nothing : (word : command.Form) → is_look word ≡ true → reads_input word ≡ false
@@ -320,6 +387,7 @@ look_reads_nothing Compact looks = absurd (false≢true looks)
 look_reads_nothing (Load number) looks = absurd (false≢true looks)
 look_reads_nothing Advise looks = refl
 look_reads_nothing (Ship from) looks = refl
+look_reads_nothing Follow looks = absurd (false≢true looks)
 
 looks_not : (form : Option command.Form) (word other : command.Form) → is_look word ≡ true → is_look other ≡ false → form ≡ Some word → form ≡ Some other → ⊥
 looks_not form word other looks not is e =
@@ -387,6 +455,7 @@ look_runs o bounds words form word source desk desk_now status looks is not audi
       ship_takes_nothing = λ from _. refl;
       ship_changes_nothing = λ from _. alone;
       ship_complete = λ from e says calls. (ships from e).1 (λ w. says (write.rose w)) (λ d. calls (disk.rose d));
+      follow = λ e. absurd (other Follow refl e);
       compact = λ e. absurd (other Compact refl e);
       compact_takes_nothing = λ e. refl;
       compact_says_nothing = λ e. absurd (other Compact refl e);
@@ -541,6 +610,7 @@ compact_runs o bounds words form source desk desk_now status is compacts quiet s
       ship_takes_nothing = λ from e. cc;
       ship_changes_nothing = λ from e. cc;
       ship_complete = λ from e. cc;
+      follow = λ e. cc;
       compact = λ _. compacts;
       compact_takes_nothing = λ _. refl;
       compact_says_nothing = λ _. quiet;

@@ -8,7 +8,7 @@ use Rattle.std.specs.String.{string_bytes}
 use Rattle.std.specs.declared.string.String.{String}
 use Rattle.ctrl_model.specs.NameForm.{is_name}
 use Rattle.ctrl_serve.specs.declared.command_line.Form.{Form}
-use Rattle.ctrl_serve.specs.declared.command_line.Form.TheVariants.{Dry, Replay, Audit, Compact, Load, Advise, Ship}
+use Rattle.ctrl_serve.specs.declared.command_line.Form.TheVariants.{Dry, Replay, Audit, Compact, Load, Advise, Ship, Follow}
 use Rattle.session_mux.specs.declared.sessions.Form.TheVariants.{Plain, Trace}
 
 -- The bytes of each word.
@@ -36,7 +36,8 @@ form_of (word ∷ []) =
     if bytes_eq word (codes "dry") then Some Dry
     else if bytes_eq word (codes "replay") then Some (Replay Plain)
     else if bytes_eq word (codes "audit") then Some Audit
-    else if bytes_eq word (codes "compact") then Some Compact else None
+    else if bytes_eq word (codes "compact") then Some Compact
+    else if bytes_eq word (codes "follow") then Some Follow else None
 form_of (word ∷ next ∷ []) =
     if bytes_eq word (codes "load") then option_map Load (number_below (2 ^ 32) next)
     else if bytes_eq word (codes "ship") then option_map Ship (number_below (2 ^ 64) next)
@@ -53,3 +54,4 @@ reads_input Compact = false
 reads_input (Load number) = false
 reads_input Advise = false
 reads_input (Ship from) = false
+reads_input Follow = true

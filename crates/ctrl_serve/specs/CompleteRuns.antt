@@ -1,5 +1,5 @@
 -- What the runs on a folder come to where no call failed but a note (docs/PROMISES.md, "The headline").
-use Rattle.std.specs.Prelude.{◌≡◌, ◌⊎◌, ℕ, List}
+use Rattle.std.specs.Prelude.{◌≡◌, ◌⊎◌, ℕ, List, Some}
 use Rattle.std.specs.declared.option.Option.{Option}
 use Rattle.ziti_outside.specs.Causes.{Rose}
 use Rattle.ziti_outside.specs.Images.{Image}
@@ -11,6 +11,11 @@ use Rattle.ctrl_keep.specs.KeptMachine.{Machine}
 use Rattle.run_notes.specs.declared.ends.Full.{Full}
 use Rattle.run_notes.specs.declared.status.Status.{Status}
 use Rattle.run_notes.specs.declared.status.Status.TheVariants.{Done, FolderFull}
+use Rattle.ctrl_core.specs.KeptFormat.{kept_format}
+use Rattle.row_store.specs.OpenedStates.{byte_rows_of}
+use Rattle.follow_core.specs.Following.{Copy}
+use Rattle.serve_loop.specs.ServedInputs as loop
+use Rattle.ctrl_serve.specs.FollowWords.{OpensAsCopy, follower}
 use Rattle.ctrl_serve.specs.OpenedFolders.{OpensTo}
 use Rattle.ctrl_serve.specs.FolderWords.{compaction, refusal_of}
 use Rattle.ctrl_serve.specs.Headline.{Completes, Taking}
@@ -29,6 +34,13 @@ IsFull bounds reads status = (status ≡ FolderFull) × (full : Full) × LacksRo
 abbrev pub CompletesFrom : State → Taking → StoreBounds → (left_before left_now : Option (List ℕ)) (before now : Seen) → Status → Type 0
 CompletesFrom s taking bounds left left_now before now status =
     (m : Machine) × OpensTo before.reads m × (m.state ≡ s) × HasRoomToOpen bounds before.reads × Completes taking bounds m left left_now before now status
+
+-- A run that follows on a folder with a state is complete: it is so from the copy that the folder is once it is opened, which has the rows of that
+-- state. A folder of the first format has room to be migrated then.
+abbrev pub CompletesCopy : State → Taking → StoreBounds → (left_before left_now : Option (List ℕ)) (before now : Seen) → Status → Type 0
+CompletesCopy s taking bounds left left_now before now status =
+    (c : Copy) × OpensAsCopy before.reads c × (c.rows ≡ byte_rows_of kept_format s) × HasRoomToOpen bounds before.reads
+    × loop.Completes taking (follower bounds) (Some c) left left_now before now status
 
 -- A compaction came out as the machine's step does: it was done, or refused since a part has no room.
 abbrev pub ComesOut : StoreBounds → Machine → Status → Type 0

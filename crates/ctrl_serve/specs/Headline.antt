@@ -23,7 +23,7 @@ use Rattle.ctrl_serve.specs.declared.bounds.Bounds.{Bounds}
 use Rattle.session_mux.specs.declared.sessions.Form.{Form}
 use Rattle.session_mux.specs.declared.sessions.Form.TheVariants.{Plain}
 use Rattle.ctrl_serve.specs.declared.command_line.Form as command
-use Rattle.ctrl_serve.specs.declared.command_line.Form.TheVariants.{Dry, Replay, Audit, Compact, Load, Advise, Ship}
+use Rattle.ctrl_serve.specs.declared.command_line.Form.TheVariants.{Dry, Replay, Audit, Compact, Load, Advise, Ship, Follow}
 use Rattle.run_notes.specs.declared.ends.Full.{Full}
 use Rattle.run_notes.specs.declared.status.Status.{Status}
 use Rattle.run_notes.specs.declared.status.Status.TheVariants.{Done, Usage, ReadFault, WriteFault, DiskFault, Damaged, NoMemory, FolderFull}
@@ -39,6 +39,7 @@ use Rattle.run_notes.specs.Endings.{is_kept}
 use Rattle.ctrl_serve.specs.Loads.{counts_line, state_of_load, SaysOneLine, IsSaid}
 use Rattle.ctrl_serve.specs.FolderWords.{Advises, Audits, Compacts}
 use Rattle.ctrl_serve.specs.ShipWords.{Ships}
+use Rattle.ctrl_serve.specs.FollowWords.{Copies}
 use Rattle.ctrl_serve.specs.RunStops.{AllOpenTo, StopFinds}
 use Rattle.ctrl_serve.specs.MigratedRuns.{CutsMigration, HasRoomToOpen, IsToldFull, LeftByMigration}
 use Rattle.ctrl_serve.specs.UnsaidReplies.{KeepsOneAhead}
@@ -174,6 +175,10 @@ pub record Replays {S D : Type 0} (taking : Taking) (bounds : StoreBounds) (o : 
 -- Under `ship N` nothing is taken, and the folder is left alone, in either format. Where it opens to a state, its batches from the serial N on are
 -- said as frames; where it opens to none, nothing is said. Where no call failed the run is done, or the folder is damaged or memory is wanting.
 --
+-- Under `follow` plain input is taken, and the folder is opened first, as under `replay`. Where it opens to a copy of a leader's folder, each frame is followed
+-- from there on, and at the end the folder keeps the copy behind all frames; where it opens to none, or has no room to be migrated, nothing is taken and
+-- said, and the folder stays.
+--
 -- Under `compact` nothing is taken and said. The folder is opened first, as under `replay`; where it opens to a machine, it is compacted, or the
 -- compaction is refused for want of room, with the status FolderFull, which also tells that it has no room to be migrated.
 --
@@ -225,6 +230,9 @@ pub record Runs {S D : Type 0} (o : Outside S D) (bounds : Bounds) (words : List
   pub ship_changes_nothing : (from : ℕ) → form ≡ Some (Ship from) → IsLeftAlone o.seen o.stopped desk desk_now
   pub ship_complete : (from : ℕ) → form ≡ Some (Ship from) → (Rose (o.seen desk).say_faults (o.seen desk_now).say_faults → ⊥) → (Rose (o.seen desk).disk_faults (o.seen desk_now).disk_faults → ⊥)
       → (status ≡ Done) ⊎ (status ≡ Damaged) ⊎ (status ≡ NoMemory)
+  pub follow : form ≡ Some Follow
+      → Refuses (folder_bounds bounds) o.tells o.seen o.stopped source source_now desk desk_now status
+      ⊎ Copies (taking_of Plain bounds.input) (folder_bounds bounds) o source source_now desk desk_now status
   pub compact : form ≡ Some Compact
       → IsUnopened (Some (folder_bounds bounds)) o.tells o.seen o.stopped desk desk_now status
       ⊎ Compacts (folder_bounds bounds) o.tells (o.seen desk) (o.seen desk_now) (o.stopped desk) (o.stopped desk_now) status

@@ -4,12 +4,13 @@ pub mod FrameAnswer
 pub mod SaidReplies
 pub mod OpenedFolders
 pub mod MigratedRuns
-pub mod WorkedAnswers
 pub mod Loads
 pub mod RunStops
 pub mod UnsaidReplies
 pub mod FolderWords
 pub mod ShipWords
+pub mod FollowWords
+pub mod CopyViews
 pub mod FolderRuns
 pub mod UncompactedFolders
 pub mod LookedLines
@@ -19,6 +20,5 @@ pub mod KnownReplies
 pub mod FollowedFolders
 pub mod Runs
 pub use Rattle.run_notes.specs.Statuses
-pub mod WorkedStops
 pub mod CompleteRuns
 pub mod LeftFolders

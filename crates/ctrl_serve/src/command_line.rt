@@ -20,6 +20,8 @@ pub enum Form {
     Advise,
     /// The shipping of the folder from this serial on. It is left alone.
     Ship(u64),
+    /// Plain input of frames that were shipped, into the folder, which is the copy of another.
+    Follow,
 }
 
 // Whether a text begins with a plus, or with a zero before another byte.
@@ -47,8 +49,8 @@ fn small_number_of_word(word: &str) -> Option<u32>
     u32::try_from(number).ok()
 }
 
-/// What the words run, if they are a line of the table of words: `dry`, `replay`, `replay --sessions`, `audit`, `compact`, `load N`, `ship N` and
-/// `advise I S`, of which the last two are names.
+/// What the words run, if they are a line of the table of words: `dry`, `replay`, `replay --sessions`, `audit`, `compact`, `follow`, `load N`, `ship N`
+/// and `advise I S`, of which the last two are names.
 pub fn form_of(words: &[String]) -> Option<Form>
     ensures { result ≡ form_of (texts words.now) }
 {
@@ -59,6 +61,7 @@ pub fn form_of(words: &[String]) -> Option<Form>
         }
         [word] if word.as_bytes() == b"audit".as_slice() => Some(Form::Audit),
         [word] if word.as_bytes() == b"compact".as_slice() => Some(Form::Compact),
+        [word] if word.as_bytes() == b"follow".as_slice() => Some(Form::Follow),
         [word, number] if word.as_bytes() == b"load".as_slice() => {
             match small_number_of_word(number.as_str()) {
                 Some(number) => Some(Form::Load(number)),

@@ -178,10 +178,11 @@ fn answer_kept<D: Desk>(
 }
 
 impl AnswersFrames for AloneController {
+    ghost use Rattle.std.specs.Prelude.{false};
     ghost use Rattle.row_store.specs.declared.bounds.StoreBounds.{StoreBounds};
     ghost use Rattle.ctrl_keep.specs.KeptMachine.{Machine as ControllerMachine};
     ghost use Rattle.ctrl_serve.specs.ControllerViews.{alone_serving, no_needs};
-    ghost use Rattle.ctrl_serve.specs.FrameAnswer.{controller};
+    ghost use Rattle.ctrl_serve.specs.FrameAnswer.{alone, controller};
 
     ghost Machine = { ControllerMachine };
 
@@ -189,7 +190,11 @@ impl AnswersFrames for AloneController {
 
     ghost answers = { controller };
 
+    ghost by_folder = { false };
+
     ghost serving = { λ c. alone_serving c.core };
+
+    ghost machine = { λ tells reads c. alone c.core.state };
 
     ghost needs = { λ c. no_needs };
 
@@ -209,7 +214,9 @@ impl AnswersFrames for AloneController {
 }
 
 impl AnswersFrames for KeptController {
+    ghost use Rattle.std.specs.Prelude.{false};
     ghost use Rattle.row_store.specs.declared.bounds.StoreBounds.{StoreBounds};
+    ghost use Rattle.ctrl_keep.specs.KeptController.{machine_of};
     ghost use Rattle.ctrl_keep.specs.KeptMachine.{Machine as ControllerMachine};
     ghost use Rattle.ctrl_serve.specs.ControllerViews.{kept_needs, kept_serving};
     ghost use Rattle.ctrl_serve.specs.FrameAnswer.{controller};
@@ -220,7 +227,11 @@ impl AnswersFrames for KeptController {
 
     ghost answers = { controller };
 
+    ghost by_folder = { false };
+
     ghost serving = { λ c. kept_serving c.kept };
+
+    ghost machine = { λ tells reads c. machine_of c.kept };
 
     ghost needs = { λ c. kept_needs c.kept };
 

@@ -8,11 +8,12 @@ ghost use Rattle.row_store.specs.OpenedStates.{OpensToState};
 ghost use Rattle.run_notes.specs.NotedLines.{FindsNoMore, RisesOnce};
 ghost use Rattle.ctrl_serve.specs.FolderRuns.{TellsClosed, TellsCompaction, TellsRoom, full_in};
 ghost use Rattle.ctrl_serve.specs.FolderWords.{Compacts, EndsCompaction, Looks};
-ghost use Rattle.ctrl_serve.specs.Headline.{IsLeftAlone, IsUnopened, OnlySaysAndNotes};
+ghost use Rattle.ctrl_serve.specs.Headline.{folder_bounds, IsLeftAlone, IsUnopened, OnlySaysAndNotes};
 ghost use Rattle.ctrl_serve.specs.Loads.{SaysOneLine};
 ghost use Rattle.ctrl_serve.specs.LookedLines.{HasNames, line_of as line_asked};
 ghost use Rattle.ctrl_serve.specs.Runs.{IsDiskCaused, IsWriteCaused};
 
+use crate::bounds::Bounds;
 use crate::controller::cut_of;
 use crate::loads::say_line;
 use crate::looking::{Look, line_of};
@@ -23,6 +24,16 @@ use row_store::StoreBounds;
 use run_notes::{Cut, Full, Status, tell_cut, tell_damage, tell_full};
 use std::alloc::Global;
 use ziti_outside::Desk;
+
+/// The bounds of the folder, of those of a run.
+pub(crate) fn store_bounds(bounds: Bounds) -> StoreBounds
+    ensures { result ≡ folder_bounds bounds }
+{
+    StoreBounds {
+        slot: bounds.slot,
+        mark: bounds.mark,
+    }
+}
 
 /// Notes why the folder was not opened, and answers that status. It wants no memory.
 pub(crate) fn tell_closed<D: Desk>(fault: KeepFault, desk: &mut D) -> Status

@@ -44,8 +44,8 @@ ghost use Rattle.ctrl_serve.specs.RunStops.{StopFinds, HoldsFirst};
 ghost use Rattle.ctrl_serve.specs.OpenedFolders.{OpensTo};
 ghost use Rattle.ctrl_serve.specs.CommandLine.{form_of, number_below};
 ghost use Rattle.ctrl_serve.specs.declared.command_line.Form as command;
-ghost use Rattle.ctrl_serve.specs.declared.command_line.Form.TheVariants.{Replay, Audit, Compact, Advise, Ship};
-ghost use Rattle.ctrl_serve.specs.CompleteRuns.{IsCalm, IsFull, CompletesFrom, ComesOutFrom};
+ghost use Rattle.ctrl_serve.specs.declared.command_line.Form.TheVariants.{Replay, Audit, Compact, Advise, Ship, Follow};
+ghost use Rattle.ctrl_serve.specs.CompleteRuns.{IsCalm, IsFull, CompletesCopy, CompletesFrom, ComesOutFrom};
 ghost use Rattle.ziti_outside.specs.Views.{Seen};
 ghost use Rattle.ctrl_serve.specs.declared.bounds.Bounds.{Bounds};
 
@@ -181,9 +181,9 @@ pub fn runs_without_compact_leave_the_other_slot<S: Source, D: Desk>()
 {}
 
 /// What a run on a folder comes to where no call failed, those of notes aside, and the folder tells its bytes and opens to a state. Want of memory
-/// is the one thing that may still cut it short. Otherwise `replay` and `compact` end with FolderFull exactly where the folder is one of the first
-/// format and has no room to be migrated. Where it has room, `replay` is complete from the machine of that state: it ended as the bytes
-/// decide, and all replies were said; `audit` is done, and said the counts line of that state, and `advise` the report of that state on its two names;
+/// is the one thing that may still cut it short. Otherwise `replay`, `follow` and `compact` end with FolderFull exactly where the folder is one of the
+/// first format and has no room to be migrated. Where it has room, `replay` is complete from the machine of that state, and `follow` from the copy that
+/// has its rows: it ended as the bytes decide, and all replies were said; `audit` is done, and said the counts line of that state, and `advise` the report of that state on its two names;
 /// `ship` is done, and said all that is shipped of the batches for which the folder stands; and `compact` was done, or was refused for want of room
 /// where the machine's step refuses it.
 pub fn runs_are_complete<S: Source, D: Desk>()
@@ -191,6 +191,10 @@ pub fn runs_are_complete<S: Source, D: Desk>()
         → Runs (record { left = S.left; faults = S.faults; tells = D.tells; seen = D.seen; stopped = D.stopped }) bounds words (Some (Replay form)) source source_now desk desk_now status
         → IsTrue D.tells → OpensToState (D.seen desk).reads s → IsCalm (S.faults source) (S.faults source_now) → IsCalm (D.seen desk).say_faults (D.seen desk_now).say_faults → IsCalm (D.seen desk).disk_faults (D.seen desk_now).disk_faults
         → (status ≡ NoMemory) ⊎ IsFull (folder_bounds bounds) (D.seen desk).reads status ⊎ CompletesFrom s (taking_of form bounds.input) (folder_bounds bounds) (S.left source) (S.left source_now) (D.seen desk) (D.seen desk_now) status }
+    ensures follow { (bounds : Bounds) (words : List (List ℕ)) (source source_now : S) (desk desk_now : D) (status : Status) (s : State)
+        → Runs (record { left = S.left; faults = S.faults; tells = D.tells; seen = D.seen; stopped = D.stopped }) bounds words (Some Follow) source source_now desk desk_now status
+        → IsTrue D.tells → OpensToState (D.seen desk).reads s → IsCalm (S.faults source) (S.faults source_now) → IsCalm (D.seen desk).say_faults (D.seen desk_now).say_faults → IsCalm (D.seen desk).disk_faults (D.seen desk_now).disk_faults
+        → (status ≡ NoMemory) ⊎ IsFull (folder_bounds bounds) (D.seen desk).reads status ⊎ CompletesCopy s (taking_of Plain bounds.input) (folder_bounds bounds) (S.left source) (S.left source_now) (D.seen desk) (D.seen desk_now) status }
     ensures audit { (bounds : Bounds) (words : List (List ℕ)) (source source_now : S) (desk desk_now : D) (status : Status) (s : State)
         → Runs (record { left = S.left; faults = S.faults; tells = D.tells; seen = D.seen; stopped = D.stopped }) bounds words (Some Audit) source source_now desk desk_now status
         → IsTrue D.tells → OpensToState (D.seen desk).reads s → IsCalm (D.seen desk).say_faults (D.seen desk_now).say_faults → IsCalm (D.seen desk).disk_faults (D.seen desk_now).disk_faults

@@ -1,5 +1,5 @@
-//! The top call of the controller. By the words it reads the input, answers each whole frame and says the replies; or it looks at the
-//! folder, ships or compacts it, or answers a generated load.
+//! The top call of the controller. By the words it reads the input, answers each whole frame and says the replies, by the controller or a
+//! follower; or it looks at the folder, ships or compacts it, or answers a generated load.
 #![tactic(auto)]
 
 mod bounds;
@@ -7,12 +7,12 @@ mod command_line;
 mod controller;
 mod ending;
 mod folder;
+mod following;
 mod laws;
 mod loads;
 mod looking;
 mod shipping;
 mod top;
-mod worked;
 
 pub use bounds::Bounds;
 pub use command_line::Form;
@@ -27,8 +27,3 @@ pub use laws::{
 };
 pub use run_notes::Status;
 pub use top::{run, run_within};
-pub use worked::{
-    worked_answers, worked_circuits, worked_counts, worked_networks, worked_numbers,
-    worked_policies, worked_readings, worked_runs, worked_sessions, worked_stops,
-    worked_uncompacted, worked_words,
-};

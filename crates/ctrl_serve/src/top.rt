@@ -13,13 +13,13 @@ ghost use Rattle.ctrl_serve.specs.Headline.{folder_bounds, program_bounds, takin
 use crate::bounds::Bounds;
 use crate::command_line::{Form, form_of};
 use crate::controller::{AloneController, KeptController};
-use crate::folder::{run_compact, run_look, tell_closed};
+use crate::folder::{run_compact, run_look, store_bounds, tell_closed};
+use crate::following::run_follow;
 use crate::loads::run_load;
 use crate::looking::Look;
 use crate::shipping::run_ship;
 use ctrl_core::Core;
 use ctrl_keep::Kept;
-use row_store::StoreBounds;
 use run_notes::{Cut, Status, note_lines, status_line, tell_cut};
 use serve_loop::run_on;
 use std::alloc::Global;
@@ -42,16 +42,6 @@ fn run_dry<S: Source, D: Desk>(alloc: Global, most: u64, source: &mut S, desk: &
             status
         }
         Err(_) => tell_cut(Cut::NoMemory, desk),
-    }
-}
-
-// The bounds of the folder, of those of a run.
-fn store_bounds(bounds: Bounds) -> StoreBounds
-    ensures { result ≡ folder_bounds bounds }
-{
-    StoreBounds {
-        slot: bounds.slot,
-        mark: bounds.mark,
     }
 }
 
@@ -133,6 +123,7 @@ pub fn run_within<S: Source, D: Desk>(
         Some(Form::Load(number)) => run_load(alloc, number, desk),
         Some(Form::Advise) => run_advise(alloc, words.as_slice(), desk),
         Some(Form::Ship(from)) => run_ship(alloc, from, desk),
+        Some(Form::Follow) => run_follow(alloc, bounds, source, desk),
         None => {
             note_lines(status_line(Status::Usage), desk);
             Status::Usage

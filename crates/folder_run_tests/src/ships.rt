@@ -133,7 +133,7 @@ const NO_SERIALS: [&str; 9] = [
 ];
 
 const USAGE: &str =
-    "usage: zitictl dry | replay [--sessions] | audit | compact | load N | advise I S | ship N";
+    "usage: zitictl dry | replay [--sessions] | audit | compact | load N | advise I S | ship N | follow";
 
 // Frames, one behind another.
 fn joined(alloc: Global, frames: &[&[u8]]) -> Result<Vec<u8>, AllocError> {

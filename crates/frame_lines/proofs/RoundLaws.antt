@@ -1,5 +1,5 @@
 -- What was told reads as it was, and what was read is told in full.
-use Rattle.std.proofs.Common.{◌≡◌, ℕ, zero, suc, ◌+◌, ◌-◌, ◌||◌, Bool, true, false, cond, eqb, get_or, List, [], ◌∷◌, ◌++◌, length, map, codes, decimal, None, Some, Ok, Err, refl, sym, ap, ◌∙◌, append_assoc, append-nil}
+use Rattle.std.proofs.Common.{◌≡◌, ℕ, zero, suc, ◌+◌, ◌-◌, ◌||◌, ◌==◌, Bool, true, false, cond, eqb, get_or, List, [], ◌∷◌, ◌++◌, length, map, codes, decimal, None, Some, Ok, Err, refl, sym, ap, ◌∙◌, append_assoc, append-nil}
 use Rattle.std.specs.declared.option.Option.{Option}
 use Rattle.std.specs.declared.result.Result.{Result}
 use Rattle.std.specs.List.{flat_map, list_any, AllByRecursion}
@@ -20,7 +20,7 @@ use Rattle.frame_lines.specs.TextLines.{passes, lines_of}
 use Rattle.frame_lines.specs.LineCuts.{Lacks}
 use Rattle.frame_lines.specs.LineReading.{said_by}
 use Rattle.frame_lines.specs.TextReading.{frame_of, next_after, frames_from, bytes_said, fault_from, fault_said}
-use Rattle.frame_lines.specs.FrameLines.{words_from, words_for, name_or, frame_words, body_words, body_cause, line_with, line_for}
+use Rattle.frame_lines.specs.FrameLines.{words_from, words_for, name_or, frame_words, body_words, body_cause, line_from, line_with, line_for}
 use Rattle.frame_lines.specs.TextTelling.{and_then_lines, lines_for, or_untold, untold_from, line_at, front_fault, tail_fault, fault_behind, framed, text_told, fault_told}
 use Rattle.frame_lines.specs.FullLines.{HasToldBody, HasNoHeaders}
 use Rattle.frame_lines.proofs.TurnLaws.{frames_at, fault_at}
@@ -31,6 +31,16 @@ use Rattle.frame_lines.proofs.WordLaws.{IsTold, IsPlainLine, number_word, type_w
 -- the words and the body of a frame in full
 abbrev pub full : Frame → List ℕ
 full f = frame_words f ++ body_words f.body
+
+-- it is no piece of a batch
+unshipped_line : (content sequence : ℕ) (body : List ℕ) → let f : Frame = record { content = content; sequence = sequence; headers = []; body = body } in line_for f ≡ line_with (words_for f) (body_cause body) body
+unshipped_line content sequence body =
+    let f : Frame = record { content = content; sequence = sequence; headers = []; body = body } in
+    ap (λ (p : Option (ℕ × (ℕ × ℕ))). line_from p f) (no_piece_at ((content == 1900) || (content == 1901)))
+  where
+    no_piece_at : (t : Bool) → cond {A = Option (ℕ × (ℕ × ℕ))} t None None ≡ None
+    no_piece_at true = refl
+    no_piece_at false = refl
 
 no_reply_at : (t : Bool) → cond {A = Option (ℕ × Bool)} t None None ≡ None
 no_reply_at true = refl
@@ -45,7 +55,7 @@ plain_words content sequence body =
 told_at : (content sequence : ℕ) (body : List ℕ) → body_cause body ≡ None → let f : Frame = record { content = content; sequence = sequence; headers = []; body = body } in line_for f ≡ Ok (full f)
 told_at content sequence body told =
     let f : Frame = record { content = content; sequence = sequence; headers = []; body = body } in
-    ap (λ (w : Option (List ℕ)). line_with w (body_cause body) body) (plain_words content sequence body)
+    unshipped_line content sequence body ∙ ap (λ (w : Option (List ℕ)). line_with w (body_cause body) body) (plain_words content sequence body)
     ∙ ap (λ (c : Option TellCause). line_with (Some (frame_words f)) c body) told
 
 plain_frame : (f : Frame) → f.headers ≡ [] → f ≡ record { content = f.content; sequence = f.sequence; headers = []; body = f.body }
@@ -165,7 +175,7 @@ body_at : (content sequence : ℕ) (body : List ℕ) (o : Option TellCause) (lin
 body_at content sequence body None line is told = refl
 body_at content sequence body (Some why) line is told =
     let f : Frame = record { content = content; sequence = sequence; headers = []; body = body } in
-    let none : line_for f ≡ Err why = ap (λ (w : Option (List ℕ)). line_with w (body_cause body) body) (plain_words content sequence body)
+    let none : line_for f ≡ Err why = unshipped_line content sequence body ∙ ap (λ (w : Option (List ℕ)). line_with w (body_cause body) body) (plain_words content sequence body)
     ∙ ap (λ (c : Option TellCause). line_with (Some (frame_words f)) c body) is in
     cc
 

@@ -1,7 +1,8 @@
 -- The line that tells a frame, or why none does (docs/FORMATS.md, "Lines for people").
-use Rattle.std.specs.Prelude.{ℕ, ◌-◌, Bool, ◌&&◌, ◌==◌, nat_lt, if◌then◌else◌, List, [], ◌∷◌, ◌++◌, length, slice_index, codes, decimal, None, Some, Ok, Err}
+use Rattle.std.specs.Prelude.{ℕ, ◌-◌, Bool, ◌&&◌, ◌||◌, ◌==◌, nat_lt, if◌then◌else◌, List, [], ◌∷◌, ◌++◌, length, slice_index, codes, decimal, None, Some, Ok, Err}
 use Rattle.std.specs.declared.option.Option.{Option}
 use Rattle.std.specs.declared.result.Result.{Result}
+use Rattle.std.specs.Int.{w64, from_le_bytes}
 use Rattle.std.specs.List.{list_any}
 use Rattle.std.specs.Str.{is_utf8}
 use Rattle.channel_frame.specs.declared.frames.Frame.{Frame}
@@ -33,6 +34,41 @@ reply_of f = if f.content == 2 then reply_in f.headers else None
 -- What a reply's line begins with: the request's sequence number, and whether it had success.
 abbrev pub reply_words : ℕ × Bool → List ℕ
 reply_words reply = decimal reply.0 ++ (if reply.1 then codes " ok" else codes " refused")
+
+-- A header of this key with so many bytes.
+abbrev pub is_header : (key len : ℕ) → Header → Bool
+is_header key len h = (h.key == key) && (length h.value == len)
+
+-- The number that eight bytes are, the least first.
+abbrev pub wide_of : List ℕ → ℕ
+wide_of v =
+    from_le_bytes w64 (
+    slice_index v 0 ∷ slice_index v 1 ∷ slice_index v 2 ∷ slice_index v 3 ∷ slice_index v 4 ∷ slice_index v 5 ∷ slice_index v 6 ∷ slice_index v 7 ∷ []
+    )
+
+-- The serial of a batch, the number of a piece of it and how many pieces it has, where the headers are exactly these three.
+abbrev pub piece_in : List Header → Option (ℕ × (ℕ × ℕ))
+piece_in [] = None
+piece_in (h ∷ []) = None
+piece_in (h ∷ k ∷ []) = None
+piece_in (h ∷ k ∷ l ∷ []) =
+    if is_header 1000 8 h && (is_header 1001 4 k && is_header 1002 4 l) then Some (wide_of h.value, (number_at 0 k.value, number_at 0 l.value)) else None
+piece_in (h ∷ k ∷ l ∷ m ∷ headers) = None
+
+-- The piece of a batch that a frame carries: content type 1900 or 1901, and exactly the three headers (docs/FORMATS.md, "Ship frames").
+abbrev pub piece_of : Frame → Option (ℕ × (ℕ × ℕ))
+piece_of f = if (f.content == 1900) || (f.content == 1901) then piece_in f.headers else None
+
+-- The sort of a batch.
+abbrev pub sort_words : ℕ → List ℕ
+sort_words content = if content == 1900 then codes " whole serial=" else codes " next serial="
+
+-- The line of a piece: the frame's sequence number, the sort of the batch, its serial, the piece's number and their count, and how many bytes the
+-- body has, which are not told.
+abbrev pub piece_words : Frame → ℕ × (ℕ × ℕ) → List ℕ
+piece_words f piece =
+    decimal f.sequence
+    ++ (sort_words f.content ++ (decimal piece.0 ++ (codes " piece=" ++ (decimal piece.1.0 ++ (codes " count=" ++ (decimal piece.1.1 ++ (codes " bytes=" ++ decimal (length f.body))))))))
 
 -- A content type by its name, where it has one, else by its number.
 abbrev pub name_or : Option (List ℕ) → ℕ → List ℕ
@@ -74,6 +110,11 @@ line_with None cause body = Err Headers
 line_with (Some words) (Some cause) body = Err cause
 line_with (Some words) None body = Ok (words ++ body_words body)
 
+-- The line of a piece of a batch, or of another frame.
+abbrev pub line_from : Option (ℕ × (ℕ × ℕ)) → Frame → Result (List ℕ) TellCause
+line_from (Some piece) f = Ok (piece_words f piece)
+line_from None f = line_with (words_for f) (body_cause f.body) f.body
+
 -- The line that tells a frame, or why none does.
 abbrev pub line_for : Frame → Result (List ℕ) TellCause
-line_for f = line_with (words_for f) (body_cause f.body) f.body
+line_for f = line_from (piece_of f) f

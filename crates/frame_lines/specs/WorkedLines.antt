@@ -1,5 +1,5 @@
 -- Texts and lines of the worked examples (docs/FORMATS.md, "Lines for people").
-use Rattle.std.specs.Prelude.{ℕ, List, [], ◌∷◌, ◌++◌, codes}
+use Rattle.std.specs.Prelude.{ℕ, List, [], ◌∷◌, ◌++◌, codes, replicate}
 use Rattle.channel_frame.specs.declared.frames.Frame.{Frame}
 use Rattle.channel_frame.specs.WorkedFrames.{ann_frame, reply_frame}
 
@@ -32,6 +32,15 @@ refusal_frame = record reply_frame { headers = record { key = 1; value = 7 ∷ 0
 -- A reply with a header more than its two.
 abbrev pub longer_reply : Frame
 longer_reply = record reply_frame { headers = reply_frame.headers ++ record { key = 3; value = [] } ∷ [] }
+
+-- The first piece of a batch of 43 bytes, which is shipped.
+abbrev pub ann_piece : Frame
+ann_piece = record {
+  content = 1900;
+  sequence = 0;
+  headers = record { key = 1000; value = 1 ∷ 0 ∷ 0 ∷ 0 ∷ 0 ∷ 0 ∷ 0 ∷ 0 ∷ [] } ∷ record { key = 1001; value = 0 ∷ 0 ∷ 0 ∷ 0 ∷ [] } ∷ record { key = 1002; value = 1 ∷ 0 ∷ 0 ∷ 0 ∷ [] } ∷ [];
+  body = replicate 43 2;
+}
 
 -- The frame of ann with another body.
 abbrev pub ann_with : List ℕ → Frame

@@ -1,8 +1,9 @@
-ghost use Rattle.std.specs.Prelude.{◌≡◌, ◌==◌, ◌++◌, ◌-◌, IfOk, OnOk, length, slice_index};
+ghost use Rattle.std.specs.Prelude.{◌≡◌, ◌==◌, ◌++◌, ◌∷◌, ◌-◌, [], None, IfOk, OnOk, length, slice_index};
+ghost use Rattle.channel_frame.specs.StreamReading.{number_at};
 ghost use Rattle.std.specs.List.{list_any};
 ghost use Rattle.std.specs.Option.{option_map};
 ghost use Rattle.std.specs.String.{string_bytes};
-ghost use Rattle.frame_lines.specs.FrameLines.{is_request, is_success, reply_in, reply_of, reply_words, frame_words, words_for, body_words, body_cause, line_for};
+ghost use Rattle.frame_lines.specs.FrameLines.{is_header, is_request, is_success, wide_of, piece_in, piece_of, piece_words, reply_in, reply_of, reply_words, frame_words, words_for, body_words, body_cause, line_from, line_for};
 ghost use Rattle.frame_lines.specs.FrameTurns.{PutsLine};
 
 use crate::told::TellCause;
@@ -70,6 +71,74 @@ fn frame_words(alloc: Global, frame: &Frame) -> Result<String, AllocError>
     }
 }
 
+fn is_header(header: &Header, key: u32, len: usize) -> bool
+    ensures { result ≡ is_header key len header.now }
+{
+    header.key == key && header.value.len() == len
+}
+
+fn number_of(value: &[u8]) -> u32
+    requires { length value.now ≡ 4 }
+    ensures { result ≡ number_at 0 value.now }
+{
+    u32::from_le_bytes([value[0], value[1], value[2], value[3]])
+}
+
+fn wide_of(value: &[u8]) -> u64
+    requires { length value.now ≡ 8 }
+    ensures { result ≡ wide_of value.now }
+{
+    u64::from_le_bytes([
+        value[0], value[1], value[2], value[3], value[4], value[5], value[6], value[7],
+    ])
+}
+
+// The numbers of the three headers of a piece.
+fn piece_in(headers: &[Header]) -> Option<(u64, (u32, u32))>
+    ensures { result ≡ piece_in headers.now }
+{
+    match headers {
+        [serial, number, count]
+            if is_header(serial, 1000, 8)
+                && is_header(number, 1001, 4)
+                && is_header(count, 1002, 4) => {
+            let serial = wide_of(serial.value.as_slice());
+            let number = number_of(number.value.as_slice());
+            let count = number_of(count.value.as_slice());
+            Some((serial, (number, count)))
+        }
+        _ => None,
+    }
+}
+
+fn piece_of(frame: &Frame) -> Option<(u64, (u32, u32))>
+    ensures { result ≡ piece_of frame.now }
+{
+    if frame.content == 1900 || frame.content == 1901 {
+        piece_in(frame.headers.as_slice())
+    } else {
+        None
+    }
+}
+
+// The line of a frame that carries a piece with these numbers in its headers.
+fn piece_words(alloc: Global, frame: &Frame, piece: (u64, (u32, u32))) -> Result<String, AllocError>
+    ensures { IfOk result (λ words. string_bytes words ≡ piece_words frame.now piece) }
+{
+    let sequence = frame.sequence;
+    let (serial, (number, count)) = piece;
+    let len = frame.body.len();
+    if frame.content == 1900 {
+        format!(in alloc;
+            "{sequence} whole serial={serial} piece={number} count={count} bytes={len}"
+        )
+    } else {
+        format!(in alloc;
+            "{sequence} next serial={serial} piece={number} count={count} bytes={len}"
+        )
+    }
+}
+
 // What the line of a frame begins with, if a line can tell its headers.
 fn words_for(alloc: Global, frame: &Frame) -> Result<Option<String>, AllocError>
     ensures { IfOk result (λ words. option_map string_bytes words ≡ words_for frame.now) }
@@ -121,13 +190,13 @@ fn push_body(out: &mut Vec<u8>, body: &[u8]) -> Result<(), AllocError>
     out.extend_from_slice(body)
 }
 
-/// Puts the line of a frame down with its newline, or answers why no line tells the frame.
-pub fn put_line(
+// Puts the line of a frame down that carries no piece.
+fn put_plain(
     alloc: Global,
     out: &mut Vec<u8>,
     frame: &Frame,
 ) -> Result<Result<(), TellCause>, AllocError>
-    ensures { IfOk result (λ put. PutsLine (line_for frame.now) out.old.items out.new.items put) }
+    ensures { IfOk result (λ put. PutsLine (line_from None frame.now) out.old.items out.new.items put) }
 {
     let Some(words) = words_for(alloc, frame)? else {
         return Ok(Err(TellCause::Headers));
@@ -139,4 +208,30 @@ pub fn put_line(
     push_body(out, frame.body.as_slice())?;
     out.push(b'\n')?;
     Ok(Ok(()))
+}
+
+fn put_words(out: &mut Vec<u8>, words: &str) -> Result<(), AllocError>
+    ensures { OnOk result (out.new.items ≡ out.old.items ++ (words.now ++ 10 ∷ [])) }
+{
+    out.extend_from_slice(words.as_bytes())?;
+    out.push(b'\n')?;
+    Ok(())
+}
+
+/// Puts the line of a frame down with its newline, or answers why no line tells the frame.
+pub fn put_line(
+    alloc: Global,
+    out: &mut Vec<u8>,
+    frame: &Frame,
+) -> Result<Result<(), TellCause>, AllocError>
+    ensures { IfOk result (λ put. PutsLine (line_for frame.now) out.old.items out.new.items put) }
+{
+    match piece_of(frame) {
+        Some(piece) => {
+            let words = piece_words(alloc, frame, piece)?;
+            put_words(out, words.as_str())?;
+            Ok(Ok(()))
+        }
+        None => put_plain(alloc, out, frame),
+    }
 }

@@ -13,7 +13,7 @@ ghost use Rattle.frame_lines.specs.TextTelling.{text_told, fault_told};
 ghost use Rattle.frame_lines.specs.FaultTexts.{line_text, frame_text};
 ghost use Rattle.frame_lines.specs.NearNames.{near_name};
 ghost use Rattle.frame_lines.specs.TextFaults.{faults_of, first_fault, faults_told};
-ghost use Rattle.frame_lines.specs.WorkedLines.{ann_line, nine_lines, four_frames, four_lines, refusal_frame, longer_reply, ann_with, seven_lines, seven_told};
+ghost use Rattle.frame_lines.specs.WorkedLines.{ann_line, nine_lines, four_frames, four_lines, refusal_frame, longer_reply, ann_piece, ann_with, seven_lines, seven_told};
 
 /// Names of content types and their numbers.
 pub fn worked_types()
@@ -85,6 +85,9 @@ pub fn worked_tellings()
     ensures reply { line_for reply_frame ≡ Ok (codes "7 ok {\"no\":1}") }
     ensures refusal { line_for refusal_frame ≡ Ok (codes "7 refused") }
     ensures no_reply { line_for (record ann_frame { content = 2 }) ≡ Ok (codes "7 2 {\"name\":\"ann\"}") }
+    ensures piece { line_for ann_piece ≡ Ok (codes "0 whole serial=1 piece=0 count=1 bytes=43") }
+    ensures next_piece { line_for (record ann_piece { content = 1901; sequence = 9 }) ≡ Ok (codes "9 next serial=1 piece=0 count=1 bytes=43") }
+    ensures no_piece { line_for (record ann_piece { content = 1902 }) ≡ Err tell.Headers }
     ensures headers { line_for longer_reply ≡ Err tell.Headers }
     ensures newline { line_for (ann_with (codes "a\nb")) ≡ Err tell.Newline }
     ensures carriage_return { line_for (ann_with (codes "a\r")) ≡ Err tell.Return }

@@ -17,7 +17,7 @@ type Trial = (
     [usize; 2],
 );
 
-const TRIALS: [Trial; 9] = [
+const TRIALS: [Trial; 12] = [
     // Ann's frame on an empty folder, which is created by two writes and two syncs, and takes her record by as many.
     (&["replay"], ["- - -", "ANN", "MADE"], [0, 1], [8, 1]),
     // Bob's frame on ann's folder: two syncs where it is opened, two writes and two syncs.
@@ -59,6 +59,20 @@ const TRIALS: [Trial; 9] = [
         [11, 1],
     ),
     (&["compact"], ["OLD_ANN - FIRST", "-", "-"], [1, 1], [12, 0]),
+    // What is followed: ann's record on an empty folder, bob's on hers, and one of both in its place, which is written to the other slot.
+    (&["follow"], ["- - -", "SHIP_ANN", "TOOK_1"], [0, 1], [8, 1]),
+    (
+        &["follow"],
+        ["ANN_SLOT - FIRST", "SHIP_BOB", "TOOK_2"],
+        [1, 2],
+        [6, 1],
+    ),
+    (
+        &["follow"],
+        ["ANN_SLOT - FIRST", "SHIP_BOTH", "TOOK_2"],
+        [1, 2],
+        [7, 1],
+    ),
 ];
 
 /// The bytes of a trial: the folder, the input, and what the whole run says.

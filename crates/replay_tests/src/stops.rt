@@ -2,14 +2,15 @@
 
 use crate::checks::{ANN_FOLDER, EMPTY, OLD_FOLDER, answers, has_rows, holds, identities_in, ran};
 use ctrl_serve::Status;
-use sample_runs::{BOTH_ONCE, BOTH_SLOT, How, Talk, parts_in, parts_of};
+use sample_runs::{BOTH_ONCE, BOTH_SLOT, How, Talk, bytes_of, parts_in, parts_of};
 use std::alloc::{AllocError, Global};
 use std::process::Abort;
 use std::test::Fail;
 use ziti_desk::MemDesk;
 
-/// A run of a word on a folder that keeps none of ann and bob, ann or both: its requests, how many of both the folder keeps before, how many the run makes, the
-/// least number of its moments, and the slot of both once the missing ones were made.
+/// A run of a word on a folder that keeps none of ann and bob, ann or both: its requests, or the parts of frames that are followed and of their replies; how many
+/// of both the folder keeps before, how many the run makes, how many bytes each reply has, the least number of its moments, and the slot of both once the
+/// missing ones were made.
 #[derive(Clone, Copy)]
 struct Trial {
     word: &'static str,
@@ -17,6 +18,7 @@ struct Trial {
     rows: &'static str,
     kept: usize,
     made: usize,
+    reply: usize,
     least: u64,
     both: &'static [u8],
 }
@@ -24,14 +26,16 @@ struct Trial {
 /// The choices of a stop: of what is pending it keeps nothing, all, or a part.
 pub(crate) const CHOICES: [u64; 3] = [0, 1, 2];
 
-/// What makes both identities where none is there, ann, and both; and how many bytes each of their replies has.
+/// What makes both identities where none is there, ann, and both; and how many bytes their replies have, and those to frames that are followed.
 const BOTH: &str = "1000 {\"name\":\"ann\"} -> {\"no\":1}\n1000 {\"name\":\"bob\"} -> {\"no\":2}";
 
 const MISSING: [&str; 3] = [BOTH, "1000 {\"name\":\"bob\"} -> {\"no\":2}", ""];
 
 const REPLY: usize = 49;
 
-const TRIALS: [Trial; 5] = [
+const TOOK: usize = 65;
+
+const TRIALS: [Trial; 7] = [
     // Both are made on an empty folder: each record takes two writes and two syncs, and each reply one say.
     Trial {
         word: "replay",
@@ -39,6 +43,7 @@ const TRIALS: [Trial; 5] = [
         rows: BOTH,
         kept: 0,
         made: 2,
+        reply: REPLY,
         least: 10,
         both: BOTH_SLOT,
     },
@@ -49,6 +54,7 @@ const TRIALS: [Trial; 5] = [
         rows: "",
         kept: 1,
         made: 0,
+        reply: REPLY,
         least: 5,
         both: BOTH_SLOT,
     },
@@ -59,6 +65,7 @@ const TRIALS: [Trial; 5] = [
         rows: "",
         kept: 1,
         made: 0,
+        reply: REPLY,
         least: 5,
         both: BOTH_ONCE,
     },
@@ -69,6 +76,7 @@ const TRIALS: [Trial; 5] = [
         rows: "1000 {\"name\":\"bob\"} -> {\"no\":2}",
         kept: 1,
         made: 1,
+        reply: REPLY,
         least: 10,
         both: BOTH_ONCE,
     },
@@ -79,8 +87,31 @@ const TRIALS: [Trial; 5] = [
         rows: "",
         kept: 1,
         made: 0,
+        reply: REPLY,
         least: 10,
         both: BOTH_ONCE,
+    },
+    // Both are followed into an empty folder, by the calls that make them there.
+    Trial {
+        word: "follow",
+        parts: EMPTY,
+        rows: "SHIP_ANN SHIP_BOB_SECOND | TOOK_1 TOOK_2_SECOND",
+        kept: 0,
+        made: 2,
+        reply: TOOK,
+        least: 10,
+        both: BOTH_SLOT,
+    },
+    // Both take ann's place, in one record in the other slot.
+    Trial {
+        word: "follow",
+        parts: ANN_FOLDER,
+        rows: "SHIP_BOTH | TOOK_2",
+        kept: 1,
+        made: 1,
+        reply: TOOK,
+        least: 6,
+        both: BOTH_SLOT,
     },
 ];
 
@@ -115,7 +146,13 @@ fn stops_at(
     assert!(rt; moment <= desk.moments());
     let (images, taken) = desk.stopped(alloc, moment, choice)?;
     holds(rt, trial.word, desk.said().starts_with(taken.as_slice()));
-    goes_on(rt, alloc, parts_in(&images), taken.len() / REPLY, trial)
+    goes_on(
+        rt,
+        alloc,
+        parts_in(&images),
+        taken.len() / trial.reply.max(1),
+        trial,
+    )
 }
 
 fn stops_by(
@@ -132,9 +169,15 @@ fn stops_by(
 }
 
 // Makes a run and stops it at each moment, by each choice.
-fn stops(rt: &impl Abort, alloc: Global, trial: &Trial, talk: &Talk) -> Result<(), AllocError> {
-    let ended = (Status::Done, talk.wanted(), b"".as_slice());
-    let (word, input, parts) = (trial.word, talk.input(), trial.parts);
+fn stops(
+    rt: &impl Abort,
+    alloc: Global,
+    trial: &Trial,
+    input: &[u8],
+    said: &[u8],
+) -> Result<(), AllocError> {
+    let ended = (Status::Done, said, b"".as_slice());
+    let (word, parts) = (trial.word, trial.parts);
     let desk = ran(rt, alloc, word, &[word], How::AMPLE, input, parts, ended)?;
     holds(rt, word, desk.moments() >= trial.least);
     for choice in CHOICES {
@@ -144,8 +187,13 @@ fn stops(rt: &impl Abort, alloc: Global, trial: &Trial, talk: &Talk) -> Result<(
 }
 
 fn check_trial(rt: &impl Abort, alloc: Global, trial: &Trial) -> Result<(), AllocError> {
+    if let Some((shipped, taken)) = trial.rows.split_once(" | ") {
+        let input = bytes_of(alloc, shipped)?;
+        let said = bytes_of(alloc, taken)?;
+        return stops(rt, alloc, trial, input.as_slice(), said.as_slice());
+    }
     let talk = Talk::of(alloc, trial.rows)?;
-    stops(rt, alloc, trial, &talk)
+    stops(rt, alloc, trial, talk.input(), talk.wanted())
 }
 
 #[test]

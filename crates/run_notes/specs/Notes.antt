@@ -61,7 +61,7 @@ rest_lines st closed = flat_map (λ s. session_rest_lines s (rest_at st closed s
 
 -- The usage note.
 abbrev pub usage_note : List ℕ
-usage_note = note_of (codes "usage: zitictl dry | replay [--sessions] | audit | compact | load N | advise I S | ship N")
+usage_note = note_of (codes "usage: zitictl dry | replay [--sessions] | audit | compact | load N | advise I S | ship N | follow")
 
 -- The number by which a note names a part of the folder: the slots by theirs. The mark is named by none.
 abbrev pub file_number : Part → ℕ

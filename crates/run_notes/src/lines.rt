@@ -15,7 +15,7 @@ pub fn status_line(status: Status) -> &'static [u8]
 {
     match status {
         Status::Usage => {
-            b"zitictl: usage: zitictl dry | replay [--sessions] | audit | compact | load N | advise I S | ship N\n"
+            b"zitictl: usage: zitictl dry | replay [--sessions] | audit | compact | load N | advise I S | ship N | follow\n"
         }
         Status::ReadFault => b"zitictl: read fault\n",
         Status::WriteFault => b"zitictl: write fault\n",

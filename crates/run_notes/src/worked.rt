@@ -61,7 +61,7 @@ pub fn worked_notes()
     ensures damaged { damaged_note Zero 8 ≡ codes "zitictl: damaged: file 0 at 8\n" }
     ensures journal_full { full_note full.Journal ≡ codes "zitictl: journal full\n" }
     ensures mark_full { full_note full.Mark ≡ codes "zitictl: mark full\n" }
-    ensures usage { usage_note ≡ codes "zitictl: usage: zitictl dry | replay [--sessions] | audit | compact | load N | advise I S | ship N\n" }
+    ensures usage { usage_note ≡ codes "zitictl: usage: zitictl dry | replay [--sessions] | audit | compact | load N | advise I S | ship N | follow\n" }
     ensures another_session { session_note 12 (codes "3 bytes left") ≡ codes "zitictl: session 12: 3 bytes left\n" }
 {}
 

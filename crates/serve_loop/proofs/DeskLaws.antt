@@ -12,7 +12,7 @@ use Rattle.serve_loop.specs.Answerers.{GoesOn, IsReady, Needs, Serving}
 use Rattle.serve_loop.specs.LeftAlone.{IsLeftAlone, OnlySaysAndNotes}
 
 -- What goes on twice goes on.
-pub GoesOn-then : {B M : Type 0} {x y z : Serving B M} → GoesOn x y → GoesOn y z → GoesOn x z
+pub GoesOn-then : {B : Type 0} {x y z : Serving B} → GoesOn x y → GoesOn y z → GoesOn x z
 GoesOn-then first second = record { able = second.able; bounds = second.bounds ∙ first.bounds; slot = second.slot ∙ first.slot; kind = second.kind ∙ first.kind }
 
 -- It is ready where no part was changed, and a stop leaves no more images.

@@ -14,9 +14,9 @@ pub follows_arrived : {M : Type 0} (answerer : Answerer M) (s : ℕ) (f : Frame)
     → answerer.follows m next before now → FollowsEvent answerer (Arrived s f) k m before now
 follows_arrived {M} answerer s f k m next before now is follows = subst (λ (x : M). answerer.follows m x before now) is follows
 
--- What leaves the parts leaves that.
-pub follows_behind : {M : Type 0} (answerer : Answerer M) (m next : M) (before mid now : Image) → answerer.follows m next before mid → now ≡ mid → answerer.follows m next before now
-follows_behind answerer m next before mid now follows same = subst (λ (i : Image). answerer.follows m next before i) (sym same) follows
+-- What leaves the parts leaves what is so of them.
+pub follows_behind : (so : Image → Type 0) {mid now : Image} → so mid → now ≡ mid → so now
+follows_behind so follows same = subst so (sym same) follows
 
 -- Along some events, and then others.
 then_along : {M : Type 0} (answerer : Answerer M) (es later : List Event) (k : Known) (m : M) (before mid now : Image) → FollowsEvents answerer es k m before mid

@@ -1,6 +1,7 @@
 pub mod FailureLaws
 pub mod KnownLaws
 pub mod DeskLaws
+pub mod OwnReplyLaws
 pub mod FollowLaws
 pub mod TurnLaws
 pub mod UsedLaws

@@ -493,12 +493,12 @@ takes_still {M} {i} {o} {later} takes noted = record {
 }
 
 -- Where all events were answered, and the ending was told.
-abbrev pub input_ends : {M : Type 0} {i : Intake M} {o : Passage} {p : Progress M} {later : Stopped} {now : Telling} (end : End) (bad : Option ℕ) (status : Status)
-    → EndsPieces i o p end → ComesToEnd p.standing bad → Elapses o.stopped_now later (λ image taken. ⊥) → now.desk.said ≡ p.told.desk.said
+abbrev pub input_ends : {M : Type 0} {i : Intake M} {o : Passage} {p : Progress M} {m : M} {later : Stopped} {now : Telling} (end : End) (bad : Option ℕ) (status : Status)
+    → m ≡ p.machine → EndsPieces i o p end → ComesToEnd p.standing bad → Elapses o.stopped_now later (λ image taken. ⊥) → now.desk.said ≡ p.told.desk.said
     → status ≡ status_at (p.known.faulty || begins_bad (end_of p.standing)) (leaves_some (end_of p.standing) p.known.closed) end
     → NotesMore p.told.failed now.failed (ending_lines (end_of p.standing) p.known.closed status) p.told.desk now.desk
-    → EndsInput status i (passed_to o later) p.machine now
-input_ends {M} {i} {o} {p} {later} {now} end bad status told comes quiet still is noted =
+    → EndsInput status i (passed_to o later) m now
+input_ends {M} {i} {o} {p} {m} {later} {now} end bad status same told comes quiet still is noted =
     let none : events_of p.standing ≡ [] = none_left p.standing bad comes in
     record {
       takes = takes_still told.takes quiet;
@@ -506,7 +506,7 @@ input_ends {M} {i} {o} {p} {later} {now} end bad status told comes quiet still i
       all = used_answered i.form i.answerer i.machine (take i.most told.takes.taken) end status {now = now} told.answers none still is noted;
       near = told.near;
       ends = told.ends;
-      last = used_last i.form i.answerer i.machine (take i.most told.takes.taken) told.answers none;
+      last = same ∙ used_last i.form i.answerer i.machine (take i.most told.takes.taken) told.answers none;
     }
 
 -- Where memory was wanting to tell it.

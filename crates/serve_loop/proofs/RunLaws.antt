@@ -114,6 +114,10 @@ pub runs_calm : {M : Type 0} {i : Intake M} {left left_now : Option (List ℕ)} 
 runs_calm {i = i} {left = left} {left_now = left_now} {desk = desk} {stopped = stopped} {stopped_now = stopped_now} {machine = machine} {go_on = go_on} {now = now} {status = status} calm runs =
     subst (λ (f : Bool). RunsOn i (passage_of left left_now f desk stopped stopped_now) machine go_on now status) calm runs
 
+-- The machine may be called otherwise.
+pub runs_at : {M : Type 0} {i : Intake M} {o : Passage} {machine now : M} {go_on : Type 0} {seen : Seen} {status : Status} → now ≡ machine → RunsOn i o machine go_on seen status → RunsOn i o now go_on seen status
+runs_at {M} {i} {o} {machine} {now} {go_on} {seen} {status} same runs = subst (λ (m : M). RunsOn i o m go_on seen status) (sym same) runs
+
 -- The notes of such a run failed once at most.
 pub cut_run_counted : {M : Type 0} (by : Cut) {i : Intake M} {o : Passage} {machine : M} {mid : Telling} (now : Telling) (status : Status) → status ≡ status_of_cut by → CutsInput by i o machine mid → o.told.failed ≡ false
     → NotesMore mid.failed now.failed (status_lines [] status) mid.desk now.desk → RisesOnce o.told.desk.note_faults now.desk.note_faults

@@ -35,13 +35,9 @@ use Rattle.ziti_outside.specs.Views.{Seen}
 
 -- ---- a frame
 
--- A turn whose reply was taken.
-pub turn_taken : {M : Type 0} (answerer : Answerer M) (at : Address) (who : Who) (f : Frame) (before now : M) (bytes : List ℕ) (a mid b : Option (List ℕ))
-    → now ≡ answerer.next who f before → bytes ≡ reply_to_frame answerer at who f before → mid ≡ a → Took mid b bytes → TakesTurn answerer at who f before now a b
-turn_taken answerer at who f before now bytes a mid b is same quiet took = record {
-  next = is;
-  said = subst (λ (x : Option (List ℕ)). Took x b (reply_to_frame answerer at who f before)) quiet (subst (λ (x : List ℕ). Took mid b x) same took);
-}
+-- A reply that was taken.
+pub turn_taken : {bytes reply : List ℕ} (a mid b : Option (List ℕ)) → bytes ≡ reply → mid ≡ a → Took mid b bytes → Took a b reply
+turn_taken {reply = reply} a mid b same quiet took = subst (λ (x : Option (List ℕ)). Took x b reply) quiet (subst (λ (x : List ℕ). Took mid b x) same took)
 
 -- A turn of which a front of the reply was taken.
 pub turn_cut : {M : Type 0} (answerer : Answerer M) (at : Address) (who : Who) (f : Frame) (before : M) (bytes : List ℕ) (a mid b : Option (List ℕ))

@@ -5,7 +5,6 @@ use Rattle.ziti_outside.specs.Views.{Seen}
 use Rattle.session_mux.specs.declared.sessions.Form.{Form}
 use Rattle.session_mux.specs.Completion.{Standing, start_of, fed}
 use Rattle.run_notes.specs.KnownSessions.{Known, known_in}
-use Rattle.serve_loop.specs.Answerers.{Serving}
 
 -- What a run has told by a moment: whether a note failed, after which none is written, and what its desk shows.
 pub record Telling : Type 0 where
@@ -32,18 +31,18 @@ pub record Served (M : Type 0) : Type 0 where
   pub machine : M
   pub said : Option (List ℕ)
 
--- It, by what is known of the sessions, what answers, and what the desk shows.
-abbrev pub served_by : {B M : Type 0} → Known → Serving B M → Seen → Served M
-served_by known c desk = record { known = known; machine = c.machine; said = desk.said }
+-- It, by what is known of the sessions, the machine, and what the desk shows.
+abbrev pub served_by : {M : Type 0} → Known → M → Seen → Served M
+served_by known machine desk = record { known = known; machine = machine; said = desk.said }
 
 -- It, of where the answering stands.
 abbrev pub served_at : {M : Type 0} → Progress M → Served M
 served_at p = record { known = p.known; machine = p.machine; said = p.told.desk.said }
 
--- Where the answering stands, by what is known of the sessions, what answers, where the sessions stand, whether a note failed, and what
+-- Where the answering stands, by what is known of the sessions, the machine, where the sessions stand, whether a note failed, and what
 -- the desk shows.
-abbrev pub progress_at : {B M : Type 0} → Known → Serving B M → Standing → (failed : Bool) → Seen → Progress M
-progress_at known c st failed desk = record { known = known; machine = c.machine; standing = st; told = record { failed = failed; desk = desk } }
+abbrev pub progress_at : {M : Type 0} → Known → M → Standing → (failed : Bool) → Seen → Progress M
+progress_at known machine st failed desk = record { known = known; machine = machine; standing = st; told = record { failed = failed; desk = desk } }
 
 -- Where it stands before any event of some bytes of an input, from a machine on.
 abbrev pub begun : {M : Type 0} → Form → M → List ℕ → Telling → Progress M

@@ -19,5 +19,5 @@ pub record OnlySaysAndNotes {D : Type 0} (seen : D → Seen) (stopped : D → St
   pub failed_calls : (seen new).disk_faults ≡ (seen old).disk_faults
 
 -- What has no folder says replies and writes notes, and does nothing else on a desk.
-abbrev pub SpeaksAlone : {B M D : Type 0} → (seen : D → Seen) (stopped : D → Stopped) (desk later : D) → Serving B M → Type 0
+abbrev pub SpeaksAlone : {B D : Type 0} → (seen : D → Seen) (stopped : D → Stopped) (desk later : D) → Serving B → Type 0
 SpeaksAlone seen stopped desk later c = c.folder ≡ false → OnlySaysAndNotes seen stopped desk later

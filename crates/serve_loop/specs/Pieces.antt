@@ -57,8 +57,8 @@ pub record Intake (M : Type 0) : Type 1 where
   pub tells : Bool
 
 -- It, by these.
-abbrev pub intake_of : {B M : Type 0} → Form → ℕ → (B → Answerer M) → Serving B M → Bool → Intake M
-intake_of form most answers c tells = record { form = form; most = most; answerer = answers c.bounds; machine = c.machine; folder = c.folder; tells = tells }
+abbrev pub intake_of : {B M : Type 0} → Form → ℕ → (B → Answerer M) → Serving B → M → Bool → Intake M
+intake_of form most answers c machine tells = record { form = form; most = most; answerer = answers c.bounds; machine = machine; folder = c.folder; tells = tells }
 
 -- What passes outside from the start of an input to a later moment: what the source had left, what was told at the start, and what a stop
 -- may leave.

@@ -5,16 +5,18 @@ use ziti_outside::Desk;
 
 /// Who answers the frames of an input, with a folder or without.
 ///
-/// Contracts see what it is `serving` with at a moment, and what it `needs` to answer. Within its bounds, `answers` says how it answers: the
-/// machine behind a frame, and the bytes of the reply; when a folder opens to a machine, and how a folder follows it.
+/// Contracts see what it is `serving` with at a moment, its `machine`, by whether the folder is told and by what it reads, and what it `needs`
+/// to answer. Within its bounds, `answers` says how it answers: the machine behind a frame, and the bytes of the reply; when a folder opens to a
+/// machine, and how a folder follows it. Where its replies hang on what the folder reads, which `by_folder` says, they are the machine's only if
+/// the folder is told.
 pub trait AnswersFrames {
-    ghost use Rattle.std.specs.Prelude.{◌≡◌, ◌≢◌, ◌⊎◌, ◌++◌, true, false, IsTrue, IfErr, OnOk};
+    ghost use Rattle.std.specs.Prelude.{◌≡◌, ◌≢◌, ◌⊎◌, ◌++◌, Bool, true, false, IsTrue, IfErr, OnOk};
     ghost use Rattle.ziti_outside.specs.Causes.{HasCause};
     ghost use Rattle.ziti_outside.specs.Images.{Image};
     ghost use Rattle.ziti_outside.specs.Moments.{Leaves, Remembers};
     ghost use Rattle.ziti_outside.specs.Untouched.{OnlyDisk};
     ghost use Rattle.journal_core.specs.Room.{HoldsRoom};
-    ghost use Rattle.serve_loop.specs.Answerers.{Answerer, FailsWithFolder, GoesOn, IsReadyOn, Needs, Serving};
+    ghost use Rattle.serve_loop.specs.Answerers.{Answerer, FailsWithFolder, GoesOn, IsReadyOn, Needs, Serving, are_its_own};
     ghost use Rattle.serve_loop.specs.Turns.{unkept};
 
     ghost Machine: { Type 0 };
@@ -23,7 +25,11 @@ pub trait AnswersFrames {
 
     ghost answers: { Bounds → Answerer Machine };
 
-    ghost serving: { Self → Serving Bounds Machine };
+    ghost by_folder: { Bool };
+
+    ghost serving: { Self → Serving Bounds };
+
+    ghost machine: { (tells : Bool) (reads : Image) → Self → Machine };
 
     ghost needs: { Self → Needs };
 
@@ -39,14 +45,14 @@ pub trait AnswersFrames {
     ) -> Result<(), Cut>
         requires able { (serving self.old).able ≡ true }
         requires ready { IsReadyOn needs D.tells D.seen D.stopped desk.old self.old }
-        ensures next { OnOk result ((serving self.new).machine ≡ (answers (serving self.old).bounds).next who.now frame.now (serving self.old).machine) }
-        ensures written { OnOk result (reply.new.items ≡ reply.old.items ++ (answers (serving self.old).bounds).reply sequence who.now frame.now (serving self.old).machine) }
+        ensures next { OnOk result ((machine D.tells (D.seen desk.new).reads self.new) ≡ (answers (serving self.old).bounds).next who.now frame.now (machine D.tells (D.seen desk.old).reads self.old)) }
+        ensures written { OnOk result (are_its_own by_folder D.tells ≡ true → reply.new.items ≡ reply.old.items ++ (answers (serving self.old).bounds).reply sequence who.now frame.now (machine D.tells (D.seen desk.old).reads self.old)) }
         ensures on { OnOk result (GoesOn (serving self.old) (serving self.new)) }
         ensures follows { OnOk result (IsTrue (serving self.old).folder → IsTrue D.tells
-            → (answers (serving self.old).bounds).follows (serving self.old).machine (serving self.new).machine (D.seen desk.old).reads (D.seen desk.new).reads) }
+            → (answers (serving self.old).bounds).follows (machine D.tells (D.seen desk.old).reads self.old) (machine D.tells (D.seen desk.new).reads self.new) (D.seen desk.old).reads (D.seen desk.new).reads) }
         ensures ready { OnOk result (IsReadyOn needs D.tells D.seen D.stopped desk.new self.new) }
         ensures found { OnOk result (IsTrue (serving self.old).folder → IsTrue D.tells → (image : Image) → (D.stopped desk.new).images image
-            → (answers (serving self.old).bounds).opens image (serving self.new).machine) }
+            → (answers (serving self.old).bounds).opens image (machine D.tells (D.seen desk.new).reads self.new)) }
         ensures cut { IfErr result (λ c. c ≢ Cut.Unsaid) }
         ensures cause { HasCause (D.seen desk.old).disk_faults (D.seen desk.new).disk_faults (unkept result) }
         ensures undisked { FailsWithFolder (serving self.old) result }
@@ -54,7 +60,7 @@ pub trait AnswersFrames {
         ensures room { HoldsRoom D.tells (serving self.old).slot D.seen D.stopped desk.old desk.new }
         ensures others { OnlyDisk D.seen desk.old desk.new }
         ensures stops { IsTrue (serving self.old).folder → IsTrue D.tells → Leaves D.seen D.stopped desk.old desk.new
-            (λ image. (answers (serving self.old).bounds).opens image (serving self.old).machine
-            ⊎ (answers (serving self.old).bounds).opens image ((answers (serving self.old).bounds).next who.now frame.now (serving self.old).machine)) }
+            (λ image. (answers (serving self.old).bounds).opens image (machine D.tells (D.seen desk.old).reads self.old)
+            ⊎ (answers (serving self.old).bounds).opens image ((answers (serving self.old).bounds).next who.now frame.now (machine D.tells (D.seen desk.old).reads self.old))) }
         ensures remembers { Remembers (D.stopped desk.old) (D.stopped desk.new) };
 }

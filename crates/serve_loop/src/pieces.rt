@@ -5,7 +5,7 @@ ghost use Rattle.run_notes.specs.Endings.{ComesToEnd};
 ghost use Rattle.run_notes.specs.Inputs.{events_in};
 ghost use Rattle.run_notes.specs.KnownSessions.{known_in};
 ghost use Rattle.run_notes.specs.NotedLines.{RisesOnce};
-ghost use Rattle.serve_loop.specs.Answerers.{FailsWithFolder, GoesOn, IsReadyOn};
+ghost use Rattle.serve_loop.specs.Answerers.{FailsWithFolder, GoesOn, IsReadyOn, seen_by};
 ghost use Rattle.serve_loop.specs.Answering.{progress_at};
 ghost use Rattle.serve_loop.specs.Failures.{TakesUntilFailure};
 ghost use Rattle.serve_loop.specs.FollowedFolders.{FollowsEvents};
@@ -85,19 +85,19 @@ fn serve_pieces<S: Source, D: Desk, A: AnswersFrames>(
     requires known { sessions.old ≡ known_in form }
     requires able { (A.serving answerer.old).able ≡ true }
     requires ready { IsReadyOn A.needs D.tells D.seen D.stopped desk.old answerer.old }
-    ensures ok { IfOk result (λ stop. (ends : EndsPieces (intake_of form most A.answers (A.serving answerer.old) D.tells)
-        (passage_of (S.left source.old) (S.left source.new) notes.old.failed (D.seen desk.old) (D.stopped desk.old) (D.stopped desk.new))
-        (progress_at sessions.new (A.serving answerer.new) mux.new notes.new.failed (D.seen desk.new)) stop.end)
-        × (IsTrue (A.serving answerer.old).folder → IsTrue D.tells → FollowsEvents (A.answers (A.serving answerer.old).bounds) ends.answers.answered (known_in form) (A.serving answerer.old).machine (D.seen desk.old).reads (D.seen desk.new).reads)) }
+    ensures ok { IfOk result (λ stop. (ends : EndsPieces (intake_of form most A.answers (A.serving answerer.old) (A.machine D.tells (D.seen desk.old).reads answerer.old) D.tells)
+        (passage_of (S.left source.old) (S.left source.new) notes.old.failed (seen_by A.by_folder D.tells (D.seen desk.old)) (D.stopped desk.old) (D.stopped desk.new))
+        (progress_at sessions.new (A.machine D.tells (D.seen desk.new).reads answerer.new) mux.new notes.new.failed (seen_by A.by_folder D.tells (D.seen desk.new))) stop.end)
+        × (IsTrue (A.serving answerer.old).folder → IsTrue D.tells → FollowsEvents (A.answers (A.serving answerer.old).bounds) ends.answers.answered (known_in form) (A.machine D.tells (D.seen desk.old).reads answerer.old) (D.seen desk.old).reads (D.seen desk.new).reads)) }
     ensures end { IfOk result (λ stop. ComesToEnd mux.new stop.bad) }
     ensures fault { IfOk result (λ stop. HasFault stop.end (S.faults source.old) (S.faults source.new)) }
     ensures faultless { OnErr result (S.faults source.new ≡ S.faults source.old) }
     ensures last { IfOk result (λ stop. stop.end ≡ End.Fault → stop.bad ≡ None) }
     ensures on { OnOk result (GoesOn (A.serving answerer.old) (A.serving answerer.new)) }
     ensures ready { OnOk result (IsReadyOn A.needs D.tells D.seen D.stopped desk.new answerer.new) }
-    ensures cut { IfErr result (λ c. CutsInput c (intake_of form most A.answers (A.serving answerer.old) D.tells)
-        (passage_of (S.left source.old) (S.left source.new) notes.old.failed (D.seen desk.old) (D.stopped desk.old) (D.stopped desk.new))
-        (A.serving answerer.new).machine (record { failed = notes.new.failed; desk = D.seen desk.new })) }
+    ensures cut { IfErr result (λ c. CutsInput c (intake_of form most A.answers (A.serving answerer.old) (A.machine D.tells (D.seen desk.old).reads answerer.old) D.tells)
+        (passage_of (S.left source.old) (S.left source.new) notes.old.failed (seen_by A.by_folder D.tells (D.seen desk.old)) (D.stopped desk.old) (D.stopped desk.new))
+        (A.machine D.tells (D.seen desk.new).reads answerer.new) (record { failed = notes.new.failed; desk = seen_by A.by_folder D.tells (D.seen desk.new) })) }
     ensures unsaid { IfErr result (λ c. c ≡ Cut.Unsaid → GoesOn (A.serving answerer.old) (A.serving answerer.new) × IsReadyOn A.needs D.tells D.seen D.stopped desk.new answerer.new) }
     ensures counted { RisesOnce (S.faults source.old) (S.faults source.new) }
     ensures until_failure { TakesUntilFailure S.left S.faults source.old source.new }
@@ -153,10 +153,10 @@ pub fn serve_input<S: Source, D: Desk, A: AnswersFrames>(
     requires most { most ≤ 2 ^ 32 }
     requires able { (A.serving answerer.old).able ≡ true }
     requires ready { IsReadyOn A.needs D.tells D.seen D.stopped desk.old answerer.old }
-    ensures answers { AnswersInput result (intake_of form most A.answers (A.serving answerer.old) D.tells)
-        (passage_of (S.left source.old) (S.left source.new) notes.old.failed (D.seen desk.old) (D.stopped desk.old) (D.stopped desk.new))
-        (A.serving answerer.new).machine (record { failed = notes.new.failed; desk = D.seen desk.new })
-        (λ used. IsTrue (A.serving answerer.old).folder → IsTrue D.tells → FollowsEvents (A.answers (A.serving answerer.old).bounds) (events_in form used) (known_in form) (A.serving answerer.old).machine (D.seen desk.old).reads (D.seen desk.new).reads) }
+    ensures answers { AnswersInput result (intake_of form most A.answers (A.serving answerer.old) (A.machine D.tells (D.seen desk.old).reads answerer.old) D.tells)
+        (passage_of (S.left source.old) (S.left source.new) notes.old.failed (seen_by A.by_folder D.tells (D.seen desk.old)) (D.stopped desk.old) (D.stopped desk.new))
+        (A.machine D.tells (D.seen desk.new).reads answerer.new) (record { failed = notes.new.failed; desk = seen_by A.by_folder D.tells (D.seen desk.new) })
+        (λ used. IsTrue (A.serving answerer.old).folder → IsTrue D.tells → FollowsEvents (A.answers (A.serving answerer.old).bounds) (events_in form used) (known_in form) (A.machine D.tells (D.seen desk.old).reads answerer.old) (D.seen desk.old).reads (D.seen desk.new).reads) }
     ensures read { IfOk result (λ status. IsReadCaused (S.faults source.old) (S.faults source.new) status) }
     ensures faultless { OnErr result (S.faults source.new ≡ S.faults source.old) }
     ensures unsaid { IfErr result (λ c. c ≡ Cut.Unsaid → GoesOn (A.serving answerer.old) (A.serving answerer.new) × IsReadyOn A.needs D.tells D.seen D.stopped desk.new answerer.new) }

@@ -1,6 +1,6 @@
 ghost use Rattle.std.specs.Prelude.{◌≡◌, ◌≢◌, ◌≤◌, ◌^◌, false, true};
 ghost use Rattle.journal_core.specs.Room.{HoldsRoom};
-ghost use Rattle.serve_loop.specs.Answerers.{GoesOn, IsReadyOn};
+ghost use Rattle.serve_loop.specs.Answerers.{GoesOn, IsReadyOn, seen_by};
 ghost use Rattle.serve_loop.specs.FaultCounts.{CountsFaults};
 ghost use Rattle.serve_loop.specs.LeftAlone.{SpeaksAlone};
 ghost use Rattle.serve_loop.specs.Pieces.{intake_of, passage_of};
@@ -29,11 +29,11 @@ pub fn run_on<S: Source, D: Desk, A: AnswersFrames>(
     requires most { most ≤ 2 ^ 32 }
     requires able { (A.serving answerer.old).able ≡ true }
     requires ready { IsReadyOn A.needs D.tells D.seen D.stopped desk.old answerer.old }
-    ensures runs { RunsOn (intake_of form most A.answers (A.serving answerer.old) D.tells)
-        (passage_of (S.left source.old) (S.left source.new) false (D.seen desk.old) (D.stopped desk.old) (D.stopped desk.new))
-        (A.serving answerer.new).machine
+    ensures runs { RunsOn (intake_of form most A.answers (A.serving answerer.old) (A.machine D.tells (D.seen desk.old).reads answerer.old) D.tells)
+        (passage_of (S.left source.old) (S.left source.new) false (seen_by A.by_folder D.tells (D.seen desk.old)) (D.stopped desk.old) (D.stopped desk.new))
+        (A.machine D.tells (D.seen desk.new).reads answerer.new)
         (GoesOn (A.serving answerer.old) (A.serving answerer.new) × IsReadyOn A.needs D.tells D.seen D.stopped desk.new answerer.new)
-        (D.seen desk.new) result }
+        (seen_by A.by_folder D.tells (D.seen desk.new)) result }
     ensures counts { CountsFaults S.left S.faults D.seen source.old source.new desk.old desk.new result }
     ensures undisked { (A.serving answerer.old).folder ≡ false → result ≢ Status.DiskFault }
     ensures alone { SpeaksAlone D.seen D.stopped desk.old desk.new (A.serving answerer.old) }

@@ -6,7 +6,7 @@ ghost use Rattle.run_notes.specs.NotedLines.{LeavesNotes};
 ghost use Rattle.run_notes.specs.Notes.{event_lines};
 ghost use Rattle.run_notes.specs.NotesSoFar.{NotesMore};
 ghost use Rattle.serve_loop.specs.AnsweredFrames.{tag};
-ghost use Rattle.serve_loop.specs.Answerers.{FailsWithFolder, GoesOn, IsReadyOn};
+ghost use Rattle.serve_loop.specs.Answerers.{FailsWithFolder, GoesOn, IsReadyOn, seen_by};
 ghost use Rattle.serve_loop.specs.Answering.{progress_at, served_by};
 ghost use Rattle.serve_loop.specs.FollowedFolders.{FollowsEvent, FollowsEvents};
 ghost use Rattle.serve_loop.specs.KnownReplies.{machine_after};
@@ -53,13 +53,13 @@ fn serve_frame<D: Desk, A: AnswersFrames>(
 ) -> Result<(), Cut>
     requires able { (A.serving answerer.old).able ≡ true }
     requires ready { IsReadyOn A.needs D.tells D.seen D.stopped desk.old answerer.old }
-    ensures ok { OnOk result (TakesTurn (A.answers (A.serving answerer.old).bounds) address who.now frame.now (A.serving answerer.old).machine (A.serving answerer.new).machine (D.seen desk.old).said (D.seen desk.new).said) }
+    ensures ok { OnOk result (TakesTurn (A.answers (A.serving answerer.old).bounds) address who.now frame.now (A.machine D.tells (D.seen desk.old).reads answerer.old) (A.machine D.tells (D.seen desk.new).reads answerer.new) (seen_by A.by_folder D.tells (D.seen desk.old)).said (seen_by A.by_folder D.tells (D.seen desk.new)).said) }
     ensures on { OnOk result (GoesOn (A.serving answerer.old) (A.serving answerer.new)) }
     ensures follows { OnOk result (IsTrue (A.serving answerer.old).folder → IsTrue D.tells
-        → (A.answers (A.serving answerer.old).bounds).follows (A.serving answerer.old).machine (A.serving answerer.new).machine (D.seen desk.old).reads (D.seen desk.new).reads) }
+        → (A.answers (A.serving answerer.old).bounds).follows (A.machine D.tells (D.seen desk.old).reads answerer.old) (A.machine D.tells (D.seen desk.new).reads answerer.new) (D.seen desk.old).reads (D.seen desk.new).reads) }
     ensures ready { OnOk result (IsReadyOn A.needs D.tells D.seen D.stopped desk.new answerer.new) }
-    ensures cut { IfErr result (λ c. CutsTurn c (A.answers (A.serving answerer.old).bounds) address who.now frame.now (A.serving answerer.old).machine (D.seen desk.old).said (D.seen desk.new).said) }
-    ensures next { IfErr result (λ c. c ≡ Cut.Unsaid → (A.serving answerer.new).machine ≡ (A.answers (A.serving answerer.old).bounds).next who.now frame.now (A.serving answerer.old).machine) }
+    ensures cut { IfErr result (λ c. CutsTurn c (A.answers (A.serving answerer.old).bounds) address who.now frame.now (A.machine D.tells (D.seen desk.old).reads answerer.old) (seen_by A.by_folder D.tells (D.seen desk.old)).said (seen_by A.by_folder D.tells (D.seen desk.new)).said) }
+    ensures next { IfErr result (λ c. c ≡ Cut.Unsaid → (A.machine D.tells (D.seen desk.new).reads answerer.new) ≡ (A.answers (A.serving answerer.old).bounds).next who.now frame.now (A.machine D.tells (D.seen desk.old).reads answerer.old)) }
     ensures unsaid { IfErr result (λ c. c ≡ Cut.Unsaid → GoesOn (A.serving answerer.old) (A.serving answerer.new) × IsReadyOn A.needs D.tells D.seen D.stopped desk.new answerer.new) }
     ensures say_cause { HasCause (D.seen desk.old).say_faults (D.seen desk.new).say_faults (unsaid result) }
     ensures disk_cause { HasCause (D.seen desk.old).disk_faults (D.seen desk.new).disk_faults (unkept result) }
@@ -68,9 +68,9 @@ fn serve_frame<D: Desk, A: AnswersFrames>(
     ensures alone { SpeaksAlone D.seen D.stopped desk.old desk.new (A.serving answerer.old) }
     ensures room { HoldsRoom D.tells (A.serving answerer.old).slot D.seen D.stopped desk.old desk.new }
     ensures stops { IsTrue (A.serving answerer.old).folder → IsTrue D.tells → Elapses (D.stopped desk.old) (D.stopped desk.new)
-        (Turn (A.answers (A.serving answerer.old).bounds) (A.serving answerer.old).machine
-        ((A.answers (A.serving answerer.old).bounds).next who.now frame.now (A.serving answerer.old).machine)
-        (reply_to_frame (A.answers (A.serving answerer.old).bounds) address who.now frame.now (A.serving answerer.old).machine) (D.seen desk.old).said) }
+        (Turn (A.answers (A.serving answerer.old).bounds) (A.machine D.tells (D.seen desk.old).reads answerer.old)
+        ((A.answers (A.serving answerer.old).bounds).next who.now frame.now (A.machine D.tells (D.seen desk.old).reads answerer.old))
+        (reply_to_frame (A.answers (A.serving answerer.old).bounds) address who.now frame.now (A.machine D.tells (D.seen desk.old).reads answerer.old)) (seen_by A.by_folder D.tells (D.seen desk.old)).said) }
 {
     let mut bytes = tag_of(alloc, address)?;
     answerer.answer(desk, who, frame, address.sequence, &mut bytes)?;
@@ -92,13 +92,13 @@ fn serve_arrived<D: Desk, A: AnswersFrames>(
 ) -> Result<(), Cut>
     requires able { (A.serving answerer.old).able ≡ true }
     requires ready { IsReadyOn A.needs D.tells D.seen D.stopped desk.old answerer.old }
-    ensures ok { OnOk result (TakesEvent form (A.answers (A.serving answerer.old).bounds) (Arrived session frame.now) (served_by sessions.old (A.serving answerer.old) (D.seen desk.old)) (served_by sessions.new (A.serving answerer.new) (D.seen desk.new))) }
+    ensures ok { OnOk result (TakesEvent form (A.answers (A.serving answerer.old).bounds) (Arrived session frame.now) (served_by sessions.old (A.machine D.tells (D.seen desk.old).reads answerer.old) (seen_by A.by_folder D.tells (D.seen desk.old))) (served_by sessions.new (A.machine D.tells (D.seen desk.new).reads answerer.new) (seen_by A.by_folder D.tells (D.seen desk.new)))) }
     ensures on { OnOk result (GoesOn (A.serving answerer.old) (A.serving answerer.new)) }
     ensures follows { OnOk result (IsTrue (A.serving answerer.old).folder → IsTrue D.tells
-        → FollowsEvent (A.answers (A.serving answerer.old).bounds) (Arrived session frame.now) sessions.old (A.serving answerer.old).machine (D.seen desk.old).reads (D.seen desk.new).reads) }
+        → FollowsEvent (A.answers (A.serving answerer.old).bounds) (Arrived session frame.now) sessions.old (A.machine D.tells (D.seen desk.old).reads answerer.old) (D.seen desk.old).reads (D.seen desk.new).reads) }
     ensures ready { OnOk result (IsReadyOn A.needs D.tells D.seen D.stopped desk.new answerer.new) }
-    ensures cut { IfErr result (λ c. CutsEvent c form (A.answers (A.serving answerer.old).bounds) (Arrived session frame.now) sessions.old (A.serving answerer.old).machine (D.seen desk.old).said (D.seen desk.new).said) }
-    ensures next { IfErr result (λ c. c ≡ Cut.Unsaid → (A.serving answerer.new).machine ≡ machine_after (A.answers (A.serving answerer.old).bounds) (Arrived session frame.now) sessions.old (A.serving answerer.old).machine) }
+    ensures cut { IfErr result (λ c. CutsEvent c form (A.answers (A.serving answerer.old).bounds) (Arrived session frame.now) sessions.old (A.machine D.tells (D.seen desk.old).reads answerer.old) (seen_by A.by_folder D.tells (D.seen desk.old)).said (seen_by A.by_folder D.tells (D.seen desk.new)).said) }
+    ensures next { IfErr result (λ c. c ≡ Cut.Unsaid → (A.machine D.tells (D.seen desk.new).reads answerer.new) ≡ machine_after (A.answers (A.serving answerer.old).bounds) (Arrived session frame.now) sessions.old (A.machine D.tells (D.seen desk.old).reads answerer.old)) }
     ensures unsaid { IfErr result (λ c. c ≡ Cut.Unsaid → GoesOn (A.serving answerer.old) (A.serving answerer.new) × IsReadyOn A.needs D.tells D.seen D.stopped desk.new answerer.new) }
     ensures say_cause { HasCause (D.seen desk.old).say_faults (D.seen desk.new).say_faults (unsaid result) }
     ensures disk_cause { HasCause (D.seen desk.old).disk_faults (D.seen desk.new).disk_faults (unkept result) }
@@ -107,7 +107,7 @@ fn serve_arrived<D: Desk, A: AnswersFrames>(
     ensures alone { SpeaksAlone D.seen D.stopped desk.old desk.new (A.serving answerer.old) }
     ensures room { HoldsRoom D.tells (A.serving answerer.old).slot D.seen D.stopped desk.old desk.new }
     ensures stops { IsTrue (A.serving answerer.old).folder → IsTrue D.tells → Elapses (D.stopped desk.old) (D.stopped desk.new)
-        (StopsEvent form (A.answers (A.serving answerer.old).bounds) (Arrived session frame.now) sessions.old (A.serving answerer.old).machine (D.seen desk.old).said) }
+        (StopsEvent form (A.answers (A.serving answerer.old).bounds) (Arrived session frame.now) sessions.old (A.machine D.tells (D.seen desk.old).reads answerer.old) (seen_by A.by_folder D.tells (D.seen desk.old)).said) }
 {
     let address = Address {
         form,
@@ -138,13 +138,13 @@ fn serve_event<D: Desk, A: AnswersFrames>(
 ) -> Result<(), Cut>
     requires able { (A.serving answerer.old).able ≡ true }
     requires ready { IsReadyOn A.needs D.tells D.seen D.stopped desk.old answerer.old }
-    ensures ok { OnOk result (TakesEvent form (A.answers (A.serving answerer.old).bounds) event (served_by sessions.old (A.serving answerer.old) (D.seen desk.old)) (served_by sessions.new (A.serving answerer.new) (D.seen desk.new))) }
+    ensures ok { OnOk result (TakesEvent form (A.answers (A.serving answerer.old).bounds) event (served_by sessions.old (A.machine D.tells (D.seen desk.old).reads answerer.old) (seen_by A.by_folder D.tells (D.seen desk.old))) (served_by sessions.new (A.machine D.tells (D.seen desk.new).reads answerer.new) (seen_by A.by_folder D.tells (D.seen desk.new)))) }
     ensures on { OnOk result (GoesOn (A.serving answerer.old) (A.serving answerer.new)) }
     ensures follows { OnOk result (IsTrue (A.serving answerer.old).folder → IsTrue D.tells
-        → FollowsEvent (A.answers (A.serving answerer.old).bounds) event sessions.old (A.serving answerer.old).machine (D.seen desk.old).reads (D.seen desk.new).reads) }
+        → FollowsEvent (A.answers (A.serving answerer.old).bounds) event sessions.old (A.machine D.tells (D.seen desk.old).reads answerer.old) (D.seen desk.old).reads (D.seen desk.new).reads) }
     ensures ready { OnOk result (IsReadyOn A.needs D.tells D.seen D.stopped desk.new answerer.new) }
-    ensures cut { IfErr result (λ c. CutsEvent c form (A.answers (A.serving answerer.old).bounds) event sessions.old (A.serving answerer.old).machine (D.seen desk.old).said (D.seen desk.new).said) }
-    ensures next { IfErr result (λ c. c ≡ Cut.Unsaid → (A.serving answerer.new).machine ≡ machine_after (A.answers (A.serving answerer.old).bounds) event sessions.old (A.serving answerer.old).machine) }
+    ensures cut { IfErr result (λ c. CutsEvent c form (A.answers (A.serving answerer.old).bounds) event sessions.old (A.machine D.tells (D.seen desk.old).reads answerer.old) (seen_by A.by_folder D.tells (D.seen desk.old)).said (seen_by A.by_folder D.tells (D.seen desk.new)).said) }
+    ensures next { IfErr result (λ c. c ≡ Cut.Unsaid → (A.machine D.tells (D.seen desk.new).reads answerer.new) ≡ machine_after (A.answers (A.serving answerer.old).bounds) event sessions.old (A.machine D.tells (D.seen desk.old).reads answerer.old)) }
     ensures unsaid { IfErr result (λ c. c ≡ Cut.Unsaid → GoesOn (A.serving answerer.old) (A.serving answerer.new) × IsReadyOn A.needs D.tells D.seen D.stopped desk.new answerer.new) }
     ensures say_cause { HasCause (D.seen desk.old).say_faults (D.seen desk.new).say_faults (unsaid result) }
     ensures disk_cause { HasCause (D.seen desk.old).disk_faults (D.seen desk.new).disk_faults (unkept result) }
@@ -154,7 +154,7 @@ fn serve_event<D: Desk, A: AnswersFrames>(
     ensures alone { SpeaksAlone D.seen D.stopped desk.old desk.new (A.serving answerer.old) }
     ensures room { HoldsRoom D.tells (A.serving answerer.old).slot D.seen D.stopped desk.old desk.new }
     ensures stops { IsTrue (A.serving answerer.old).folder → IsTrue D.tells → Elapses (D.stopped desk.old) (D.stopped desk.new)
-        (StopsEvent form (A.answers (A.serving answerer.old).bounds) event sessions.old (A.serving answerer.old).machine (D.seen desk.old).said) }
+        (StopsEvent form (A.answers (A.serving answerer.old).bounds) event sessions.old (A.machine D.tells (D.seen desk.old).reads answerer.old) (seen_by A.by_folder D.tells (D.seen desk.old)).said) }
 {
     match event {
         Event::Opened { session, who } => {
@@ -188,14 +188,14 @@ pub fn serve_events<D: Desk, A: AnswersFrames>(
 ) -> Result<Option<u64>, Cut>
     requires able { (A.serving answerer.old).able ≡ true }
     requires ready { IsReadyOn A.needs D.tells D.seen D.stopped desk.old answerer.old }
-    ensures ok { OnOk result ((told : Answers form (A.answers (A.serving answerer.old).bounds) (progress_at sessions.old (A.serving answerer.old) mux.old notes.old.failed (D.seen desk.old))
-        (progress_at sessions.new (A.serving answerer.new) mux.new notes.new.failed (D.seen desk.new)))
-        × (IsTrue (A.serving answerer.old).folder → IsTrue D.tells → FollowsEvents (A.answers (A.serving answerer.old).bounds) told.answered sessions.old (A.serving answerer.old).machine (D.seen desk.old).reads (D.seen desk.new).reads)) }
+    ensures ok { OnOk result ((told : Answers form (A.answers (A.serving answerer.old).bounds) (progress_at sessions.old (A.machine D.tells (D.seen desk.old).reads answerer.old) mux.old notes.old.failed (seen_by A.by_folder D.tells (D.seen desk.old)))
+        (progress_at sessions.new (A.machine D.tells (D.seen desk.new).reads answerer.new) mux.new notes.new.failed (seen_by A.by_folder D.tells (D.seen desk.new))))
+        × (IsTrue (A.serving answerer.old).folder → IsTrue D.tells → FollowsEvents (A.answers (A.serving answerer.old).bounds) told.answered sessions.old (A.machine D.tells (D.seen desk.old).reads answerer.old) (D.seen desk.old).reads (D.seen desk.new).reads)) }
     ensures end { IfOk result (λ bad. ComesToEnd mux.new bad) }
     ensures on { OnOk result (GoesOn (A.serving answerer.old) (A.serving answerer.new)) }
     ensures ready { OnOk result (IsReadyOn A.needs D.tells D.seen D.stopped desk.new answerer.new) }
-    ensures cut { IfErr result (λ c. IsCutShort c form (A.answers (A.serving answerer.old).bounds) (progress_at sessions.old (A.serving answerer.old) mux.old notes.old.failed (D.seen desk.old))
-        (A.serving answerer.new).machine (record { failed = notes.new.failed; desk = D.seen desk.new })) }
+    ensures cut { IfErr result (λ c. IsCutShort c form (A.answers (A.serving answerer.old).bounds) (progress_at sessions.old (A.machine D.tells (D.seen desk.old).reads answerer.old) mux.old notes.old.failed (seen_by A.by_folder D.tells (D.seen desk.old)))
+        (A.machine D.tells (D.seen desk.new).reads answerer.new) (record { failed = notes.new.failed; desk = seen_by A.by_folder D.tells (D.seen desk.new) })) }
     ensures unsaid { IfErr result (λ c. c ≡ Cut.Unsaid → GoesOn (A.serving answerer.old) (A.serving answerer.new) × IsReadyOn A.needs D.tells D.seen D.stopped desk.new answerer.new) }
     ensures say_cause { HasCause (D.seen desk.old).say_faults (D.seen desk.new).say_faults (unsaid result) }
     ensures disk_cause { HasCause (D.seen desk.old).disk_faults (D.seen desk.new).disk_faults (unkept result) }
@@ -203,7 +203,7 @@ pub fn serve_events<D: Desk, A: AnswersFrames>(
     ensures alone { SpeaksAlone D.seen D.stopped desk.old desk.new (A.serving answerer.old) }
     ensures room { HoldsRoom D.tells (A.serving answerer.old).slot D.seen D.stopped desk.old desk.new }
     ensures stops { IsTrue (A.serving answerer.old).folder → IsTrue D.tells → Elapses (D.stopped desk.old) (D.stopped desk.new)
-        (StopsAlong form (A.answers (A.serving answerer.old).bounds) sessions.old (A.serving answerer.old).machine mux.old (D.seen desk.old).said) }
+        (StopsAlong form (A.answers (A.serving answerer.old).bounds) sessions.old (A.machine D.tells (D.seen desk.old).reads answerer.old) mux.old (seen_by A.by_folder D.tells (D.seen desk.old)).said) }
 {
     'events: loop {
         match mux.next() {

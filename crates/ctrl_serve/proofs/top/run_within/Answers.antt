@@ -5,7 +5,7 @@ use Rattle.ctrl_serve.specs.declared.command_line.Form.{Form}
 use Rattle.ctrl_serve.specs.CommandLine.{form_of, texts}
 use Rattle.run_notes.specs.NotedLines.{NotesLines}
 use Rattle.ctrl_serve.proofs.AdviseWords.{advise_words}
-use Rattle.ctrl_serve.proofs.RunLaws.{advise_runs, audit_runs, compact_runs, dry_runs, load_runs, replay_runs, ship_runs, usage_runs}
+use Rattle.ctrl_serve.proofs.RunLaws.{advise_runs, audit_runs, compact_runs, dry_runs, follow_runs, load_runs, replay_runs, ship_runs, usage_runs}
 use Rattle.ctrl_serve.proofs.top.run_within.Goals as goal
 
 pub returns-in-Some-Dry : goal.returns-in-Some-Dry
@@ -66,3 +66,9 @@ returns-in-Some-Compact g c =
       runs = compact_runs (record { left = g.S.Source.left; faults = g.S.Source.faults; tells = g.D.Desk.tells; seen = g.D.Desk.seen; stopped = g.D.Desk.stopped }) c.args.bounds _ _ _ _ _ _ form (rw (sym c.store_bounds.ensures) e.compacts) e.says_nothing e.failed_says e.disk_cause e.counted
           (subst (λ (n : ℕ). HoldsRoom g.D.Desk.tells n g.D.Desk.seen g.D.Desk.stopped c.args.desk.now c.run_compact.new.desk) slot room);
     }
+
+pub returns-in-Some-Follow : goal.returns-in-Some-Follow
+returns-in-Some-Follow g c =
+    let e = c.run_follow.ensures in
+    let form = ap (λ ws. form_of (texts ws)) (sym c.as_slice.ensures.value) ∙ sym c.form_of.ensures ∙ c.in-Some-Follow.is ∙ ap (λ (f : Form). Some f) c.in-Some-Follow.field-0-is in
+    record { runs = follow_runs (record { left = g.S.Source.left; faults = g.S.Source.faults; tells = g.D.Desk.tells; seen = g.D.Desk.seen; stopped = g.D.Desk.stopped }) c.args.bounds _ _ _ _ _ _ _ form e.follows e.counts e.room }

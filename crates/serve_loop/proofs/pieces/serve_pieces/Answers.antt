@@ -5,6 +5,7 @@ use Rattle.ziti_outside.specs.Told.{Gave}
 use Rattle.ziti_outside.proofs.Moves.{Gave-then, Gave-kept}
 use Rattle.run_notes.specs.Endings.{IsAllGiven}
 use Rattle.run_notes.specs.KnownSessions.{known_in}
+use Rattle.serve_loop.specs.Answerers.{seen_by}
 use Rattle.serve_loop.specs.Answering.{progress_at}
 use Rattle.serve_loop.specs.Pieces.{intake_of}
 use Rattle.serve_loop.proofs.DeskLaws.{GoesOn-then, OnlySaysAndNotes-none, OnlySaysAndNotes-then, room_calm, room_more}
@@ -20,8 +21,8 @@ pieces-init g c =
     record {
       on = record { able = c.requires.able; bounds = refl; slot = refl; kind = refl };
       ready = c.requires.ready;
-      answers = pieces_start (intake_of c.args.form c.args.most g.A.AnswersFrames.answers k g.D.Desk.tells) (g.S.Source.left c.args.source.now) (g.D.Desk.stopped desk)
-          (progress_at c.args.sessions.now k c.args.mux.now c.args.notes.now.failed (g.D.Desk.seen desk)) c.requires.known refl c.requires.start;
+      answers = pieces_start (intake_of c.args.form c.args.most g.A.AnswersFrames.answers k (g.A.AnswersFrames.machine g.D.Desk.tells (g.D.Desk.seen c.args.desk.now).reads c.args.answerer.now) g.D.Desk.tells) (g.S.Source.left c.args.source.now) (g.D.Desk.stopped desk)
+          (progress_at c.args.sessions.now (g.A.AnswersFrames.machine g.D.Desk.tells (g.D.Desk.seen c.args.desk.now).reads c.args.answerer.now) c.args.mux.now c.args.notes.now.failed (seen_by g.A.AnswersFrames.by_folder g.D.Desk.tells (g.D.Desk.seen desk))) c.requires.known refl c.requires.start;
       follows = λ some told. refl;
       given = subst IsAllGiven (sym c.requires.start) (start_given c.args.form);
       few = omega arith;
@@ -49,7 +50,7 @@ pieces-preserved g c =
       ready = e.ready;
       answers = now;
       follows = λ some told.
-          follows_then held.answers.answers.answered e.ok.0.answered (known_in c.args.form) (g.A.AnswersFrames.serving c.args.answerer.now).machine (g.D.Desk.seen c.args.desk.now).reads (g.D.Desk.seen c.pieces.desk).reads
+          follows_then held.answers.answers.answered e.ok.0.answered (known_in c.args.form) (g.A.AnswersFrames.machine g.D.Desk.tells (g.D.Desk.seen c.args.desk.now).reads c.args.answerer.now) (g.D.Desk.seen c.args.desk.now).reads (g.D.Desk.seen c.pieces.desk).reads
           (g.D.Desk.seen c.serve_events.new.desk).reads (ap g.A.AnswersFrames.answers held.on.bounds) held.answers.answers.known_is held.answers.answers.machine_is (held.follows some told) (e.ok.1 (held.on.kind ∙ some) told);
       given = more_given c.in_ok-bad-in-Ok.bad now e.end (sym c.is_decided.ensures ∙ c.if-is_decided.false);
       few = omega (arith, c.pieces-test.true, few, long);
@@ -73,7 +74,7 @@ pub returns-in_err-room-clause-cut : goal.returns-in_err-room-clause-cut
 returns-in_err-room-clause-cut g c =
     let desk = c.args.desk.now in
     let p = err_from_is_err_and c.from_residual.result c.from_residual.ensures.1 in
-    rw p.1 (rw p.2 (pieces_none (intake_of c.args.form c.args.most g.A.AnswersFrames.answers (g.A.AnswersFrames.serving c.args.answerer.now) g.D.Desk.tells) (g.S.Source.left c.args.source.now) (g.D.Desk.stopped desk) (g.A.AnswersFrames.serving c.args.answerer.now).machine (record { failed = c.args.notes.now.failed; desk = g.D.Desk.seen desk })))
+    rw p.1 (rw p.2 (pieces_none (intake_of c.args.form c.args.most g.A.AnswersFrames.answers (g.A.AnswersFrames.serving c.args.answerer.now) (g.A.AnswersFrames.machine g.D.Desk.tells (g.D.Desk.seen c.args.desk.now).reads c.args.answerer.now) g.D.Desk.tells) (g.S.Source.left c.args.source.now) (g.D.Desk.stopped desk) (g.A.AnswersFrames.machine g.D.Desk.tells (g.D.Desk.seen c.args.desk.now).reads c.args.answerer.now) (record { failed = c.args.notes.now.failed; desk = seen_by g.A.AnswersFrames.by_folder g.D.Desk.tells (g.D.Desk.seen desk) })))
 
 pub returns-in_err-room-clause-until_failure : goal.returns-in_err-room-clause-until_failure
 returns-in_err-room-clause-until_failure g c = takes_none _
@@ -117,7 +118,7 @@ returns-in_err-feed-in-Ok-clause-cut g c =
     let p = err_from_is_err_and c.from_residual-in_err-feed-in-Ok.result c.from_residual-in_err-feed-in-Ok.ensures.1 in
     let within : c.pieces.taken ≤ c.args.most = omega (arith, c.pieces-test.true) in
     let came = pieces_fed (take c.in-Ok.count c.take.new.buf) held.answers held.given.none within c.in-Ok.ensures.bytes.bytes few c.first_bytes.ensures refl in
-    rw p.1 (rw p.2 (fed_starved (g.A.AnswersFrames.serving c.pieces.answerer).machine came))
+    rw p.1 (rw p.2 (fed_starved (g.A.AnswersFrames.machine g.D.Desk.tells (g.D.Desk.seen c.pieces.desk).reads c.pieces.answerer) came))
 
 pub returns-in_err-feed-in-Ok-clause-until_failure : goal.returns-in_err-feed-in-Ok-clause-until_failure
 returns-in_err-feed-in-Ok-clause-until_failure g c =
@@ -147,7 +148,7 @@ returns-then-is_decided-clause-ok g c =
     let came = pieces_fed (take c.in-Ok.count c.take.new.buf) held.answers held.given.none within c.in-Ok.ensures.bytes.bytes few c.first_bytes.ensures c.in_ok-feed-in-Ok.ensures.ok in (
       fed_decided c.in_ok-bad-in-Ok.bad came (ap g.A.AnswersFrames.answers held.on.bounds) e.ok.0 (λ some told. c.serve_events.ensures.stops (held.on.kind ∙ some) told) e.end (sym c.is_decided.ensures ∙ c.if-is_decided.true),
       λ some told.
-          follows_then held.answers.answers.answered e.ok.0.answered (known_in c.args.form) (g.A.AnswersFrames.serving c.args.answerer.now).machine (g.D.Desk.seen c.args.desk.now).reads (g.D.Desk.seen c.pieces.desk).reads
+          follows_then held.answers.answers.answered e.ok.0.answered (known_in c.args.form) (g.A.AnswersFrames.machine g.D.Desk.tells (g.D.Desk.seen c.args.desk.now).reads c.args.answerer.now) (g.D.Desk.seen c.args.desk.now).reads (g.D.Desk.seen c.pieces.desk).reads
           (g.D.Desk.seen c.serve_events.new.desk).reads (ap g.A.AnswersFrames.answers held.on.bounds) held.answers.answers.known_is held.answers.answers.machine_is (held.follows some told) (e.ok.1 (held.on.kind ∙ some) told),
     )
 

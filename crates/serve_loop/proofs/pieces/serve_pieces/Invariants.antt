@@ -2,7 +2,7 @@ use Rattle.std.proofs.Common.{◌+◌, ◌-◌, ◌≡◌, ◌≤◌, IsTrue}
 use Rattle.journal_core.specs.Room.{HoldsRoom}
 use Rattle.run_notes.specs.Endings.{IsAllGiven}
 use Rattle.serve_loop.specs.Answering.{progress_at}
-use Rattle.serve_loop.specs.Answerers.{GoesOn, IsReadyOn}
+use Rattle.serve_loop.specs.Answerers.{GoesOn, IsReadyOn, seen_by}
 use Rattle.serve_loop.specs.LeftAlone.{SpeaksAlone}
 use Rattle.run_notes.specs.KnownSessions.{known_in}
 use Rattle.serve_loop.specs.FollowedFolders.{FollowsEvents}
@@ -15,11 +15,11 @@ abbrev pub invariant-pieces : goal.invariant-pieces
 invariant-pieces g l = record {
   on : GoesOn (g.A.AnswersFrames.serving l.fn.answerer) (g.A.AnswersFrames.serving l.answerer);
   ready : IsReadyOn g.A.AnswersFrames.needs g.D.Desk.tells g.D.Desk.seen g.D.Desk.stopped l.desk l.answerer;
-  answers : AnswersPieces (intake_of l.form l.most g.A.AnswersFrames.answers (g.A.AnswersFrames.serving l.fn.answerer) g.D.Desk.tells)
-      (passage_of (g.S.Source.left l.fn.source) (g.S.Source.left l.source) l.fn.notes.failed (g.D.Desk.seen l.fn.desk) (g.D.Desk.stopped l.fn.desk) (g.D.Desk.stopped l.desk))
-      (progress_at l.sessions (g.A.AnswersFrames.serving l.answerer) l.mux l.notes.failed (g.D.Desk.seen l.desk)) l.taken;
+  answers : AnswersPieces (intake_of l.form l.most g.A.AnswersFrames.answers (g.A.AnswersFrames.serving l.fn.answerer) (g.A.AnswersFrames.machine g.D.Desk.tells (g.D.Desk.seen l.fn.desk).reads l.fn.answerer) g.D.Desk.tells)
+      (passage_of (g.S.Source.left l.fn.source) (g.S.Source.left l.source) l.fn.notes.failed (seen_by g.A.AnswersFrames.by_folder g.D.Desk.tells (g.D.Desk.seen l.fn.desk)) (g.D.Desk.stopped l.fn.desk) (g.D.Desk.stopped l.desk))
+      (progress_at l.sessions (g.A.AnswersFrames.machine g.D.Desk.tells (g.D.Desk.seen l.desk).reads l.answerer) l.mux l.notes.failed (seen_by g.A.AnswersFrames.by_folder g.D.Desk.tells (g.D.Desk.seen l.desk))) l.taken;
   follows : IsTrue (g.A.AnswersFrames.serving l.fn.answerer).folder → IsTrue g.D.Desk.tells
-      → FollowsEvents (g.A.AnswersFrames.answers (g.A.AnswersFrames.serving l.fn.answerer).bounds) answers.answers.answered (known_in l.form) (g.A.AnswersFrames.serving l.fn.answerer).machine (g.D.Desk.seen l.fn.desk).reads (g.D.Desk.seen l.desk).reads;
+      → FollowsEvents (g.A.AnswersFrames.answers (g.A.AnswersFrames.serving l.fn.answerer).bounds) answers.answers.answered (known_in l.form) (g.A.AnswersFrames.machine g.D.Desk.tells (g.D.Desk.seen l.fn.desk).reads l.fn.answerer) (g.D.Desk.seen l.fn.desk).reads (g.D.Desk.seen l.desk).reads;
   given : IsAllGiven l.mux;
   few : l.taken ≤ l.most + 65536;
   calm : g.S.Source.faults l.source ≡ g.S.Source.faults l.fn.source;

@@ -26,7 +26,7 @@ returns-in_err-serve_frame-clause-stops g c = λ some told.
 pub returns-clause-follows : goal.returns-clause-follows
 returns-clause-follows g c = λ some told.
     let answerer = g.A.AnswersFrames.answers (g.A.AnswersFrames.serving c.args.answerer.now).bounds in
-    let machine = (g.A.AnswersFrames.serving c.args.answerer.now).machine in
+    let machine = (g.A.AnswersFrames.machine g.D.Desk.tells (g.D.Desk.seen c.args.desk.now).reads c.args.answerer.now) in
     let is = c.in_ok-serve_frame.ensures.ok.next ∙ ap (λ (who : Who). answerer.next who c.args.frame.now machine) c.sender.ensures in
     follows_arrived answerer c.args.session c.args.frame.now c.args.sessions.now machine _ _ _ is (c.in_ok-serve_frame.ensures.follows some told)
 
@@ -40,7 +40,7 @@ pub returns-in_err-serve_frame-clause-next : goal.returns-in_err-serve_frame-cla
 returns-in_err-serve_frame-clause-next g c =
     let p = err_from_is_err_and c.from_residual.result c.from_residual.ensures.1 in
     let answerer = g.A.AnswersFrames.answers (g.A.AnswersFrames.serving c.args.answerer.now).bounds in
-    let machine = (g.A.AnswersFrames.serving c.args.answerer.now).machine in
+    let machine = (g.A.AnswersFrames.machine g.D.Desk.tells (g.D.Desk.seen c.args.desk.now).reads c.args.answerer.now) in
     rw p.1 (rw p.2 (λ is. c.in_err-serve_frame.ensures.next is ∙ ap (λ (who : Who). answerer.next who c.args.frame.now machine) c.sender.ensures))
 
 pub returns-in_err-serve_frame-clause-unsaid : goal.returns-in_err-serve_frame-clause-unsaid

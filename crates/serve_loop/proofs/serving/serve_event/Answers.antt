@@ -16,7 +16,7 @@ returns-in-Opened-clause-alone g c = λ none. OnlySaysAndNotes-none c.args.desk.
 pub returns-in-Opened-clause-follows : goal.returns-in-Opened-clause-follows
 returns-in-Opened-clause-follows g c = λ some told.
     let old = g.A.AnswersFrames.serving c.args.answerer.now in
-    subst (λ (e : Event). FollowsEvent (g.A.AnswersFrames.answers old.bounds) e c.args.sessions.now old.machine (g.D.Desk.seen c.args.desk.now).reads (g.D.Desk.seen c.args.desk.now).reads) (sym c.in-Opened.is) refl
+    subst (λ (e : Event). FollowsEvent (g.A.AnswersFrames.answers old.bounds) e c.args.sessions.now (g.A.AnswersFrames.machine g.D.Desk.tells (g.D.Desk.seen c.args.desk.now).reads c.args.answerer.now) (g.D.Desk.seen c.args.desk.now).reads (g.D.Desk.seen c.args.desk.now).reads) (sym c.in-Opened.is) refl
 
 pub returns-in-Closed-clause-alone : goal.returns-in-Closed-clause-alone
 returns-in-Closed-clause-alone g c = λ none. OnlySaysAndNotes-none c.args.desk.now
@@ -24,7 +24,7 @@ returns-in-Closed-clause-alone g c = λ none. OnlySaysAndNotes-none c.args.desk.
 pub returns-in-Closed-clause-follows : goal.returns-in-Closed-clause-follows
 returns-in-Closed-clause-follows g c = λ some told.
     let old = g.A.AnswersFrames.serving c.args.answerer.now in
-    subst (λ (e : Event). FollowsEvent (g.A.AnswersFrames.answers old.bounds) e c.args.sessions.now old.machine (g.D.Desk.seen c.args.desk.now).reads (g.D.Desk.seen c.args.desk.now).reads) (sym c.in-Closed.is) refl
+    subst (λ (e : Event). FollowsEvent (g.A.AnswersFrames.answers old.bounds) e c.args.sessions.now (g.A.AnswersFrames.machine g.D.Desk.tells (g.D.Desk.seen c.args.desk.now).reads c.args.answerer.now) (g.D.Desk.seen c.args.desk.now).reads (g.D.Desk.seen c.args.desk.now).reads) (sym c.in-Closed.is) refl
 
 pub returns-in_err-note_fault-in-Ended-clause-alone : goal.returns-in_err-note_fault-in-Ended-clause-alone
 returns-in_err-note_fault-in-Ended-clause-alone g c = λ none. notes_alone c.note_fault.ensures.others c.note_fault.ensures.stops
@@ -35,7 +35,7 @@ returns-in_ok-note_fault-in-Ended-clause-alone g c = λ none. notes_alone c.note
 pub returns-in_ok-note_fault-in-Ended-clause-follows : goal.returns-in_ok-note_fault-in-Ended-clause-follows
 returns-in_ok-note_fault-in-Ended-clause-follows g c = λ some told.
     let old = g.A.AnswersFrames.serving c.args.answerer.now in
-    subst (λ (e : Event). FollowsEvent (g.A.AnswersFrames.answers old.bounds) e c.args.sessions.now old.machine (g.D.Desk.seen c.args.desk.now).reads (g.D.Desk.seen c.note_fault.new.desk).reads) (sym c.in-Ended.is) c.note_fault.ensures.others.parts
+    subst (λ (e : Event). FollowsEvent (g.A.AnswersFrames.answers old.bounds) e c.args.sessions.now (g.A.AnswersFrames.machine g.D.Desk.tells (g.D.Desk.seen c.args.desk.now).reads c.args.answerer.now) (g.D.Desk.seen c.args.desk.now).reads (g.D.Desk.seen c.note_fault.new.desk).reads) (sym c.in-Ended.is) c.note_fault.ensures.others.parts
 
 pub returns-in-Arrived-clause-alone : goal.returns-in-Arrived-clause-alone
 returns-in-Arrived-clause-alone g c = c.serve_arrived.ensures.alone
@@ -45,7 +45,7 @@ returns-in-Arrived-clause-follows g c =
     let answerer = g.A.AnswersFrames.answers (g.A.AnswersFrames.serving c.args.answerer.now).bounds in
     let old = g.A.AnswersFrames.serving c.args.answerer.now in
     subst (λ (e : Event). OnOk c.serve_arrived.result (IsTrue old.folder → IsTrue g.D.Desk.tells
-    → FollowsEvent answerer e c.args.sessions.now old.machine (g.D.Desk.seen c.args.desk.now).reads (g.D.Desk.seen c.serve_arrived.new.desk).reads)) (sym c.in-Arrived.is) c.serve_arrived.ensures.follows
+    → FollowsEvent answerer e c.args.sessions.now (g.A.AnswersFrames.machine g.D.Desk.tells (g.D.Desk.seen c.args.desk.now).reads c.args.answerer.now) (g.D.Desk.seen c.args.desk.now).reads (g.D.Desk.seen c.serve_arrived.new.desk).reads)) (sym c.in-Arrived.is) c.serve_arrived.ensures.follows
 
 pub returns-in-Arrived-clause-noted : goal.returns-in-Arrived-clause-noted
 returns-in-Arrived-clause-noted g c =
@@ -60,7 +60,7 @@ pub returns-in-Arrived-clause-next : goal.returns-in-Arrived-clause-next
 returns-in-Arrived-clause-next g c =
     let old = g.A.AnswersFrames.serving c.args.answerer.now in
     let new = g.A.AnswersFrames.serving c.serve_arrived.new.answerer in
-    subst (λ (e : Event). IfErr c.serve_arrived.result (λ c1. c1 ≡ Unsaid → new.machine ≡ machine_after (g.A.AnswersFrames.answers old.bounds) e c.args.sessions.now old.machine)) (sym c.in-Arrived.is) c.serve_arrived.ensures.next
+    subst (λ (e : Event). IfErr c.serve_arrived.result (λ c1. c1 ≡ Unsaid → (g.A.AnswersFrames.machine g.D.Desk.tells (g.D.Desk.seen c.serve_arrived.new.desk).reads c.serve_arrived.new.answerer) ≡ machine_after (g.A.AnswersFrames.answers old.bounds) e c.args.sessions.now (g.A.AnswersFrames.machine g.D.Desk.tells (g.D.Desk.seen c.args.desk.now).reads c.args.answerer.now))) (sym c.in-Arrived.is) c.serve_arrived.ensures.next
 
 pub returns-in-Arrived-clause-unsaid : goal.returns-in-Arrived-clause-unsaid
 returns-in-Arrived-clause-unsaid g c = c.serve_arrived.ensures.unsaid

@@ -11,7 +11,7 @@ pub returns-clause-next : goal.returns-clause-next
 returns-clause-next g c = ap (λ (p : Reply × Machine). p.1) c.in_ok-answered.ensures.ok
 
 pub returns-clause-written : goal.returns-clause-written
-returns-clause-written g c =
+returns-clause-written g c = λ own.
     c.in_ok-write_behind.ensures.ok ∙ ap (λ (p : Reply × Machine). c.args.reply.now.items ++ spelling (reply_frame c.args.sequence c.args.frame.now.sequence p.0)) c.in_ok-answered.ensures.ok
 
 pub returns-clause-follows : goal.returns-clause-follows

@@ -1,0 +1,3 @@
+pub mod WorkedAnswers
+pub mod WorkedStops
+pub mod WorkedCopies
