@@ -1,0 +1,4 @@
+pub mod PlaceLaws
+pub mod ReplyLaws
+pub mod RequestLaws
+pub mod PartLaws
