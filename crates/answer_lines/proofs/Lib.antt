@@ -2,3 +2,5 @@ pub mod PlaceLaws
 pub mod ReplyLaws
 pub mod RequestLaws
 pub mod PartLaws
+pub mod SequenceLaws
+pub mod ToldLaws

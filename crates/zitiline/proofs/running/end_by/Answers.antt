@@ -5,4 +5,4 @@ use Rattle.zitiline.specs.Answers.{status_for}
 use Rattle.zitiline.proofs.running.end_by.Goals as goal
 
 pub returns-in-Some-clause-status : goal.returns-in-Some-clause-status
-returns-in-Some-clause-status g c = ap (λ note. status_for (option_map string_bytes note)) (sym c.in-Some.is)
+returns-in-Some-clause-status g c = ap (λ note. status_for (option_map string_bytes note) c.args.refused) (sym c.in-Some.is)
