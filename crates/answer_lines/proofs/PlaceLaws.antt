@@ -1,5 +1,7 @@
 -- The reply to a request, by its place among the replies.
-use Rattle.std.proofs.Common.{◌≡◌, ℕ, ◌<◌, Bool, true, false, cond, eqb, List, [], ◌∷◌, ◌++◌, length, get_or, take, drop, None, Some, refl, ap, arith}
+use Rattle.std.proofs.Common.{◌≡◌, ℕ, ◌+◌, ◌<◌, Bool, true, false, cond, eqb, List, [], ◌∷◌, ◌++◌, length, get_or, take, drop, None, Some, inl, inr, refl, sym, ap, subst, ◌∙◌, arith}
+use Rattle.std.proofs.lemmas.Bool.{cases_lt}
+use Rattle.std.proofs.lemmas.List.{get_or_read}
 use Rattle.std.specs.declared.option.Option.{Option}
 use Rattle.answer_lines.specs.declared.replies.ReplyLine.{ReplyLine}
 use Rattle.answer_lines.specs.AnswerLines.{reply_to, without_reply}
@@ -39,3 +41,24 @@ found_to s (r ∷ rs) (suc i) any at =
     let stands : StandsAt s rs i = record { within = omega (arith, at.within); others = others_behind s r rs i at.others; this = at.this } in
     let later = found_to s rs i any stands in
     behind (eqb r.sequence s) r (get_or rs i any) (reply_to s rs) (without_reply s rs) rs (take i rs) (drop (suc i) rs) (at.others 0 any (omega arith)) later.0 later.1
+
+-- ---- the look for the place
+
+read_any : (s : ℕ) (rs : List ReplyLine) (place : ℕ) (r : ReplyLine) (t : Bool) → place < length rs → r ≡ get_or rs place r → eqb r.sequence s ≡ t
+    → (any : ReplyLine) → eqb (get_or rs place any).sequence s ≡ t
+read_any s rs place r t low is test any = ap (λ (x : ReplyLine). eqb x.sequence s) (sym (get_or_read rs place r low is any)) ∙ test
+
+-- one more is to another request
+pub others_more : (s : ℕ) (rs : List ReplyLine) (place : ℕ) (r : ReplyLine) → place < length rs → r ≡ get_or rs place r → eqb r.sequence s ≡ false
+    → AreOthers s rs place → AreOthers s rs (place + 1)
+others_more s rs place r low is other others = λ k any lt. elim (cases_lt k place) [
+  | inl before ↦ others k any before
+  | inr behind ↦
+      let same : place ≡ k = omega (arith, lt, behind) in
+      subst (λ (n : ℕ). eqb (get_or rs n any).sequence s ≡ false) same (read_any s rs place r false low is other any)
+]
+
+-- this one is to the request
+pub stands : (s : ℕ) (rs : List ReplyLine) (place : ℕ) (r : ReplyLine) → place < length rs → r ≡ get_or rs place r → eqb r.sequence s ≡ true
+    → AreOthers s rs place → StandsAt s rs place
+stands s rs place r low is this others = record { within = low; others = others; this = read_any s rs place r true low is this }

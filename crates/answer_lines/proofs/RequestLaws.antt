@@ -1,5 +1,5 @@
 -- A turn of the answering of requests.
-use Rattle.std.proofs.Common.{◌≡◌, ℕ, ◌+◌, Bool, true, false, cond, ltb, List, [], ◌∷◌, ◌++◌, length, None, Some, Ok, Err, refl, sym, ap, ◌∙◌, append_assoc}
+use Rattle.std.proofs.Common.{◌≡◌, ℕ, ◌+◌, Bool, true, false, cond, ltb, List, [], ◌∷◌, ◌++◌, length, None, Some, Ok, Err, refl, sym, ap, ◌∙◌, subst, append_assoc}
 use Rattle.std.specs.Prelude.{◌&&◌}
 use Rattle.std.specs.declared.option.Option.{Option}
 use Rattle.std.specs.declared.result.Result.{Result}
@@ -12,13 +12,13 @@ use Rattle.frame_lines.specs.TypeNames.{number_named}
 use Rattle.frame_lines.specs.LineWords.{first_word, behind_word, are_digits, number_in}
 use Rattle.frame_lines.specs.LineReading.{type_in, with_type, with_sequence, said_by}
 use Rattle.frame_lines.specs.TextLines.{passes}
-use Rattle.frame_lines.specs.TextReading.{next_after, or_fault, fault_from}
+use Rattle.frame_lines.specs.TextReading.{frame_of, next_after, or_fault, fault_from}
 use Rattle.frame_lines.specs.TextFaults.{name_on}
 use Rattle.frame_lines.proofs.TurnLaws.{fault_at}
 use Rattle.answer_lines.specs.declared.replies.ReplyLine.{ReplyLine}
 use Rattle.answer_lines.specs.declared.pairing.Turn.{Turn}
 use Rattle.answer_lines.specs.AnswerLines.{Request, request_of, and_requests, requests_from, reply_to, without_reply, has_success, answer_line, answers_for, are_ok}
-use Rattle.answer_lines.specs.AnswerTurns.{PutsRequest, GoesOn}
+use Rattle.answer_lines.specs.AnswerTurns.{PutsRequest, GoesOn, TakesLine}
 
 -- ---- the NAME of a line
 
@@ -112,3 +112,31 @@ goes_answered number next line before now replies left said turn passes_not is p
 pub goes_not : (number : ℕ) (line : List ℕ) (cause : LineCause) → passes line ≡ false → said_by line ≡ Err cause
     → (lines : List (List ℕ)) → fault_from (line ∷ lines) number ≡ Some (record { line = number; cause = cause })
 goes_not number line cause passes_not is lines = fault_at line lines number (Err cause) passes_not is
+
+-- the turn of a line that goes on, and of one that does not
+pub turn_on : (number next : ℕ) (line before now : List ℕ) (replies left : List ReplyLine) (r : Result Turn LineCause) (turn : Turn) → r ≡ Ok turn
+    → TakesLine number next line before now replies left r → GoesOn number next line before now replies left turn
+turn_on number next line before now replies left r turn is takes =
+    subst (λ (x : Result Turn LineCause). TakesLine number next line before now replies left x) is takes
+
+pub turn_off : (number next : ℕ) (line before now : List ℕ) (replies left : List ReplyLine) (r : Result Turn LineCause) (cause : LineCause) → r ≡ Err cause
+    → TakesLine number next line before now replies left r → (lines : List (List ℕ)) → fault_from (line ∷ lines) number ≡ Some (record { line = number; cause = cause })
+turn_off number next line before now replies left r cause is takes =
+    subst (λ (x : Result Turn LineCause). TakesLine number next line before now replies left x) is takes
+
+-- what was put down of a request, by its parts
+pub puts : (number next : ℕ) (line : List ℕ) (said : Line) (own : ℕ) (asked before now : List ℕ) (replies left : List ReplyLine) (reply : Option ReplyLine) (turn : Turn)
+    → own ≡ (frame_of next said).sequence → asked ≡ name_on line → reply ≡ reply_to own replies → left ≡ without_reply own replies
+    → now ≡ before ++ answer_line (record { line = number; sequence = own; asked = asked }) reply → turn.ok ≡ has_success reply → turn.next ≡ next_after own
+    → PutsRequest (request_of number next line said) before now replies left turn
+puts number next line said own asked before now replies left reply turn same named found rest put ok then =
+    let sequence : ℕ = (frame_of next said).sequence in
+    let is : reply ≡ reply_to sequence replies = found ∙ ap (λ (s : ℕ). reply_to s replies) same in
+    record {
+      put =
+          put ∙ ap (λ (a : List ℕ). before ++ answer_line (record { line = number; sequence = own; asked = a }) reply) named
+          ∙ ap (λ (r : Option ReplyLine). before ++ answer_line (record { line = number; sequence = own; asked = name_on line }) r) is;
+      left_over = rest ∙ ap (λ (s : ℕ). without_reply s replies) same;
+      ok = ok ∙ ap has_success is;
+      next = then ∙ ap next_after same;
+    }

@@ -1,5 +1,5 @@
 -- What one line does to what was put down and to the replies that are left. Only private contracts cite these.
-use Rattle.std.specs.Prelude.{◌≡◌, ℕ, ◌+◌, Bool, true, false, not, ◌&&◌, ◌||◌, List, [], ◌∷◌, ◌++◌, None, Some, Ok, Err}
+use Rattle.std.specs.Prelude.{◌≡◌, ℕ, ◌+◌, Bool, not, ◌&&◌, ◌||◌, List, [], ◌∷◌, ◌++◌, None, Some, Ok, Err}
 use Rattle.std.specs.declared.option.Option.{Option}
 use Rattle.std.specs.declared.result.Result.{Result}
 use Rattle.std.specs.List.{flat_map}
@@ -7,11 +7,12 @@ use Rattle.frame_lines.specs.declared.lines.LineCause.{LineCause}
 use Rattle.frame_lines.specs.declared.lines.LineFault.{LineFault}
 use Rattle.frame_lines.specs.TextReading.{next_after, fault_from}
 use Rattle.answer_lines.specs.declared.replies.ReplyLine.{ReplyLine}
+use Rattle.answer_lines.specs.declared.replies.NoReply.{NoReply}
 use Rattle.answer_lines.specs.declared.pairing.Turn.{Turn}
 use Rattle.answer_lines.specs.declared.answering.Answered.{Answered}
-use Rattle.answer_lines.specs.declared.answering.AnswerFault.TheVariants.{NoReply}
+use Rattle.answer_lines.specs.declared.answering.AnswerFault.TheVariants as because
 use Rattle.answer_lines.specs.ReplyLines.{replies_from, no_reply_from}
-use Rattle.answer_lines.specs.AnswerLines.{Request, requests_from, reply_to, without_reply, has_success, answer_line, stray_line, answers_for, are_none, are_ok}
+use Rattle.answer_lines.specs.AnswerLines.{Request, requests_from, reply_to, without_reply, has_success, answer_line, stray_line, answers_for, are_none, are_ok, fault_with, told_unless, refused_unless}
 
 -- ---- replies
 
@@ -25,9 +26,9 @@ pub record ReadsNone (line : List ℕ) (before now : List ReplyLine) : Type 0 wh
   pub told : (lines : List (List ℕ)) → now ≡ before ++ replies_from (line ∷ lines)
   pub fault : (lines : List (List ℕ)) (number : ℕ) → no_reply_from (line ∷ lines) number ≡ Some number
 
-abbrev pub TakesReply : List ℕ → List ReplyLine → List ReplyLine → Bool → Type 0
-TakesReply line before now true = ReadsReply line before now
-TakesReply line before now false = ReadsNone line before now
+abbrev pub TakesReply : List ℕ → List ReplyLine → List ReplyLine → Result (Unit {0}) NoReply → Type 0
+TakesReply line before now (Ok _) = ReadsReply line before now
+TakesReply line before now (Err none) = ReadsNone line before now
 
 -- ---- requests
 
@@ -65,4 +66,10 @@ TakesLines lines before now replies left (Err fault) = fault_from lines 1 ≡ So
 -- What a text is answered where its requests were answered so, and these replies are left.
 abbrev pub ended : List ℕ → Bool → List ReplyLine → Option ℕ → Answered
 ended out ok left None = record { told = out ++ flat_map stray_line left; refused = not ok || not (are_none left); fault = None }
-ended out ok left (Some number) = record { told = []; refused = false; fault = Some (NoReply number) }
+ended out ok left (Some number) = record { told = []; refused = false; fault = Some (because.NoReply number) }
+
+-- What is told of these lines of requests with these replies, of which one line is none or all are.
+pub record IsAnswered (lines : List (List ℕ)) (replies : List ReplyLine) (no_reply : Option ℕ) (a : Answered) : Type 0 where
+  pub told : a.told ≡ told_unless (fault_with (fault_from lines 1) no_reply) (answers_for (requests_from lines 1 1) replies)
+  pub refused : a.refused ≡ refused_unless (fault_with (fault_from lines 1) no_reply) (not (are_ok (requests_from lines 1 1) replies))
+  pub fault : a.fault ≡ fault_with (fault_from lines 1) no_reply

@@ -22,6 +22,8 @@ pub(crate) fn take_reply(replies: &mut VecDeque<ReplyLine>, sequence: u32) -> Op
     ensures reply { result ≡ reply_to sequence replies.old.items }
     ensures left { replies.new.items ≡ without_reply sequence replies.old.items }
 {
-    let place = place_of(replies, sequence)?;
-    replies.remove(place)
+    match place_of(replies, sequence) {
+        Some(place) => replies.remove(place),
+        None => None,
+    }
 }

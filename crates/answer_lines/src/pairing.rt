@@ -1,4 +1,4 @@
-ghost use Rattle.std.specs.Prelude.{◌≡◌, ◌++◌, ℕ, OnOk, IfOk, Ok};
+ghost use Rattle.std.specs.Prelude.{◌≡◌, ◌++◌, ◌&&◌, ℕ, OnOk, IfOk, Ok};
 ghost use Rattle.std.specs.List.{flat_map};
 ghost use Rattle.frame_lines.specs.declared.lines.Line.{Line};
 ghost use Rattle.frame_lines.specs.TextLines.{lines_of};
@@ -16,7 +16,7 @@ use std::alloc::{AllocError, Global};
 use std::collections::VecDeque;
 
 /// The turn of a line: the sequence number that comes next, and whether the line, if it has a request, was answered and not refused.
-#[derive(Clone, Copy, Debug)]
+#[derive(Clone, Copy)]
 pub(crate) struct Turn {
     pub(crate) next: u32,
     pub(crate) ok: bool,
@@ -120,6 +120,12 @@ fn take_line(
     }
 }
 
+fn both(a: bool, b: bool) -> bool
+    ensures { result ≡ (a && b) }
+{
+    a && b
+}
+
 /// Answers the requests of a text, each with the first reply to it that is left, and takes that one away. Answers whether all were answered and
 /// none refused, or the first line that says no request.
 pub(crate) fn answer_lines(
@@ -142,7 +148,7 @@ pub(crate) fn answer_lines(
         match take_line(alloc, out, replies, number, next, line)? {
             Ok(turn) => {
                 next = turn.next;
-                ok = ok && turn.ok;
+                ok = both(ok, turn.ok);
             }
             Err(cause) => return Ok(Err(LineFault {
                 line: number,

@@ -17,8 +17,12 @@ pub struct ReplyLine {
     pub words: Bytes,
 }
 
+/// A line tells no reply.
+#[derive(Clone, Copy)]
+pub(crate) struct NoReply;
+
 /// The replies of some lines, up to the first that tells none, and the number of that one.
-#[derive(Debug, Drop)]
+#[derive(Drop)]
 pub(crate) struct Replies {
     pub(crate) told: VecDeque<ReplyLine>,
     pub(crate) no_reply: Option<u64>,
@@ -57,23 +61,23 @@ fn read_reply(alloc: Global, line: &[u8]) -> Result<Option<ReplyLine>, AllocErro
     }))
 }
 
-// Puts the reply of a line down, unless the line passes. Answers whether it did either.
+// Puts the reply of a line down, unless the line passes.
 fn take_reply_line(
     alloc: Global,
     told: &mut VecDeque<ReplyLine>,
     line: &[u8],
-) -> Result<bool, AllocError>
-    ensures { IfOk result (λ goes_on. TakesReply line.now told.old.items told.new.items goes_on) }
+) -> Result<Result<(), NoReply>, AllocError>
+    ensures { IfOk result (λ turn. TakesReply line.now told.old.items told.new.items turn) }
 {
     if passes(line) {
-        return Ok(true);
+        return Ok(Ok(()));
     }
     match read_reply(alloc, line)? {
         Some(reply) => {
             told.push_back(reply)?;
-            Ok(true)
+            Ok(Ok(()))
         }
-        None => Ok(false),
+        None => Ok(Err(NoReply)),
     }
 }
 
@@ -88,7 +92,7 @@ pub(crate) fn read_replies(alloc: Global, text: &[u8], first: u64) -> Result<Rep
     let mut rest = text;
     'lines: while !rest.is_empty() {
         let (line, after) = cut_line(rest);
-        if !take_reply_line(alloc, &mut told, line)? {
+        if let Err(NoReply) = take_reply_line(alloc, &mut told, line)? {
             return Ok(Replies {
                 told,
                 no_reply: Some(number),
