@@ -1,5 +1,5 @@
 -- What one line does to what was put down and to the replies that are left. Only private contracts cite these.
-use Rattle.std.specs.Prelude.{◌≡◌, ℕ, ◌+◌, Bool, not, ◌&&◌, ◌||◌, List, [], ◌∷◌, ◌++◌, None, Some, Ok, Err}
+use Rattle.std.specs.Prelude.{◌≡◌, ℕ, ◌+◌, Bool, false, not, ◌&&◌, ◌||◌, List, [], ◌∷◌, ◌++◌, None, Some, Ok, Err}
 use Rattle.std.specs.declared.option.Option.{Option}
 use Rattle.std.specs.declared.result.Result.{Result}
 use Rattle.std.specs.List.{flat_map}
@@ -17,15 +17,16 @@ use Rattle.answer_lines.specs.AnswerLines.{Request, requests_from, reply_to, wit
 -- ---- replies
 
 -- The line passes, or its reply was put down: what was put down and the replies of the lines behind are what was there and the replies of all.
--- Else it tells no reply, and nothing was put down.
 pub record ReadsReply (line : List ℕ) (before now : List ReplyLine) : Type 0 where
   pub told : (lines : List (List ℕ)) → now ++ replies_from lines ≡ before ++ replies_from (line ∷ lines)
   pub fault : (lines : List (List ℕ)) (number : ℕ) → no_reply_from lines (number + 1) ≡ no_reply_from (line ∷ lines) number
 
+-- The line tells no reply, and nothing was put down.
 pub record ReadsNone (line : List ℕ) (before now : List ReplyLine) : Type 0 where
   pub told : (lines : List (List ℕ)) → now ≡ before ++ replies_from (line ∷ lines)
   pub fault : (lines : List (List ℕ)) (number : ℕ) → no_reply_from (line ∷ lines) number ≡ Some number
 
+-- A turn over a line of replies.
 abbrev pub TakesReply : List ℕ → List ReplyLine → List ReplyLine → Result (Unit {0}) NoReply → Type 0
 TakesReply line before now (Ok _) = ReadsReply line before now
 TakesReply line before now (Err none) = ReadsNone line before now
