@@ -1,27 +1,20 @@
 -- The answers to a text, of its parts.
-use Rattle.std.proofs.Common.{◌≡◌, ℕ, Bool, true, false, eqb, List, [], ◌∷◌, ◌++◌, length, None, Some, Ok, Err, IfOk, refl, sym, ap, subst, ◌∙◌}
+use Rattle.std.proofs.Common.{◌≡◌, ℕ, Bool, true, false, List, [], None, Some, Ok, Err, IfOk, refl, sym, ap, subst, ◌∙◌}
 use Rattle.std.specs.Prelude.{not, ◌&&◌, ◌||◌}
 use Rattle.std.specs.declared.option.Option.{Option}
 use Rattle.std.specs.declared.result.Result.{Result}
 use Rattle.std.specs.declared.alloc.AllocError.{AllocError}
-use Rattle.std.specs.List.{flat_map}
 use Rattle.std.proofs.lemmas.Result.{IfOk-weaker}
 use Rattle.frame_lines.specs.declared.lines.LineFault.{LineFault}
 use Rattle.frame_lines.specs.TextLines.{lines_of}
 use Rattle.frame_lines.specs.TextReading.{fault_from}
 use Rattle.answer_lines.specs.declared.replies.ReplyLine.{ReplyLine}
 use Rattle.answer_lines.specs.declared.answering.Answered.{Answered}
-use Rattle.answer_lines.specs.declared.answering.AnswerFault.{AnswerFault}
-use Rattle.answer_lines.specs.declared.answering.AnswerFault.TheVariants.{NoRequest, NoReply}
-use Rattle.answer_lines.specs.AnswerLines.{stray_line, answers_for, are_none, are_ok, requests_from, replies_in, fault_with, answers_fault, told_unless, refused_unless, answers_told, is_refused}
+use Rattle.answer_lines.specs.declared.answering.AnswerFault.TheVariants.{NoRequest}
+use Rattle.answer_lines.specs.AnswerLines.{answers_for, are_none, are_ok, requests_from, replies_in, fault_with, answers_fault, told_unless, refused_unless, answers_told, is_refused}
 use Rattle.answer_lines.specs.AnswerParts.{before_mark, behind_mark, number_behind}
 use Rattle.answer_lines.specs.ReplyLines.{no_reply_from}
 use Rattle.answer_lines.specs.AnswerTurns.{AnswersAll, TakesLines, IsAnswered, ended}
-
--- whether replies are left, by how many
-pub none_left : (left : List ReplyLine) (n : ℕ) → n ≡ length left → eqb n 0 ≡ are_none left
-none_left [] n is = ap (λ (k : ℕ). eqb k 0) is
-none_left (reply ∷ left) n is = ap (λ (k : ℕ). eqb k 0) is
 
 not_both : (a b : Bool) → (not a || not b) ≡ not (a && b)
 not_both true b = refl

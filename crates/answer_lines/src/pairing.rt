@@ -166,7 +166,8 @@ fn put_stray(alloc: Global, out: &mut Vec<u8>, reply: &ReplyLine) -> Result<(), 
     ensures { OnOk result (out.new.items ≡ out.old.items ++ stray_line reply.now) }
 {
     let sequence = reply.sequence;
-    let front = format!(in alloc; "no request -> {sequence} ")?;
+    let front = format!(in alloc; "{sequence} ")?;
+    out.extend_from_slice(b"no request -> ")?;
     out.extend_from_slice(front.as_bytes())?;
     out.extend_from_slice(reply.words.as_slice())?;
     out.push(b'\n')?;
