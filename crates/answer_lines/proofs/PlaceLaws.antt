@@ -1,5 +1,6 @@
 -- The reply to a request, by its place among the replies.
 use Rattle.std.proofs.Common.{◌≡◌, ℕ, ◌+◌, ◌<◌, suc, Bool, true, false, cond, eqb, List, [], ◌∷◌, ◌++◌, length, get_or, take, drop, None, Some, inl, inr, refl, sym, ap, subst, ◌∙◌, arith}
+use Prim.Native.Nat.{zero}
 use Rattle.std.proofs.lemmas.Bool.{cases_lt}
 use Rattle.std.proofs.lemmas.List.{get_or_read}
 use Rattle.std.specs.declared.option.Option.{Option}

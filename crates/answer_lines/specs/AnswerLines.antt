@@ -68,9 +68,13 @@ has_success (Some reply) = reply.success
 abbrev pub answer_line : Request → Option ReplyLine → List ℕ
 answer_line request reply = decimal request.line ++ (codes " " ++ (request.asked ++ (codes " -> " ++ (answer_words reply ++ codes "\n"))))
 
+-- A reply as it was told, with a newline.
+abbrev pub reply_line : ReplyLine → List ℕ
+reply_line reply = decimal reply.sequence ++ (codes " " ++ (reply.words ++ codes "\n"))
+
 -- The line of a reply to no request.
 abbrev pub stray_line : ReplyLine → List ℕ
-stray_line reply = codes "no request -> " ++ (decimal reply.sequence ++ (codes " " ++ (reply.words ++ codes "\n")))
+stray_line reply = codes "no request -> " ++ reply_line reply
 
 -- ---- all requests and replies
 

@@ -5,7 +5,7 @@ ghost use Rattle.frame_lines.specs.TextLines.{lines_of};
 ghost use Rattle.frame_lines.specs.LineReading.{said_by};
 ghost use Rattle.frame_lines.specs.TextFaults.{name_on};
 ghost use Rattle.answer_lines.specs.AnswerParts.{before_mark};
-ghost use Rattle.answer_lines.specs.AnswerLines.{request_of, answer_words, answer_line, stray_line, has_success};
+ghost use Rattle.answer_lines.specs.AnswerLines.{request_of, answer_words, answer_line, reply_line, stray_line, has_success};
 ghost use Rattle.answer_lines.specs.AnswerTurns.{TakesLine, TakesLines, PutsRequest};
 
 use crate::finding::take_reply;
@@ -161,16 +161,24 @@ pub(crate) fn answer_lines(
     Ok(Ok(ok))
 }
 
+// A reply as it was told, with a newline.
+fn put_reply(alloc: Global, out: &mut Vec<u8>, reply: &ReplyLine) -> Result<(), AllocError>
+    ensures { OnOk result (out.new.items ≡ out.old.items ++ reply_line reply.now) }
+{
+    let sequence = reply.sequence;
+    let front = format!(in alloc; "{sequence} ")?;
+    out.extend_from_slice(front.as_bytes())?;
+    out.extend_from_slice(reply.words.as_slice())?;
+    out.push(b'\n')?;
+    Ok(())
+}
+
 // The line of a reply to no request, with its newline.
 fn put_stray(alloc: Global, out: &mut Vec<u8>, reply: &ReplyLine) -> Result<(), AllocError>
     ensures { OnOk result (out.new.items ≡ out.old.items ++ stray_line reply.now) }
 {
-    let sequence = reply.sequence;
-    let front = format!(in alloc; "{sequence} ")?;
     out.extend_from_slice(b"no request -> ")?;
-    out.extend_from_slice(front.as_bytes())?;
-    out.extend_from_slice(reply.words.as_slice())?;
-    out.push(b'\n')?;
+    put_reply(alloc, out, reply)?;
     Ok(())
 }
 
