@@ -92,7 +92,7 @@ goes_answered number next line before now replies left said turn passes_not is p
     let q : Request = request_of number next line said in
     let own : List ReplyLine = without_reply q.sequence replies in
     let all : (lines : List (List ℕ)) → q ∷ requests_from lines (number + 1) turn.next ≡ requests_from (line ∷ lines) number next =
-        λ lines. ap (λ (n : ℕ). q ∷ requests_from lines (number + 1) n) put.next ∙ sym (requests_at line lines number next (Ok said) passes_not is) in
+    λ lines. ap (λ (n : ℕ). q ∷ requests_from lines (number + 1) n) put.next ∙ sym (requests_at line lines number next (Ok said) passes_not is) in
     record {
       told = λ lines.
           let rest : List Request = requests_from lines (number + 1) turn.next in

@@ -82,11 +82,7 @@ fn with_strays(
 }
 
 // What is told of the requests of a text with these replies.
-fn answer_requests(
-    alloc: Global,
-    text: &[u8],
-    mut replies: Replies,
-) -> Result<Answered, AllocError>
+fn answer_requests(alloc: Global, text: &[u8], mut replies: Replies) -> Result<Answered, AllocError>
     ensures { IfOk result (λ a. IsAnswered (before_mark (lines_of text.now)) replies.told.items replies.no_reply a) }
 {
     let mut out = Vec::new(alloc);

@@ -9,7 +9,7 @@ mod parting;
 mod replies;
 mod worked;
 
-pub use answering::{Answered, AnswerFault, answers};
+pub use answering::{AnswerFault, Answered, answers};
 pub use laws::{requests_are_those_of_encode, what_decode_tells_is_a_reply};
 pub use replies::ReplyLine;
 pub use worked::{worked_answers, worked_faults, worked_replies};

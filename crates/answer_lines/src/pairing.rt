@@ -112,9 +112,7 @@ fn take_line(
         Ok(said) => {
             let sequence = said.sequence;
             drop(said);
-            Ok(Ok(answer_request(
-                alloc, out, replies, number, next, sequence, line,
-            )?))
+            Ok(Ok(answer_request(alloc, out, replies, number, next, sequence, line)?))
         }
         Err(cause) => Ok(Err(cause)),
     }

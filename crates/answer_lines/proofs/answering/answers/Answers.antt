@@ -16,8 +16,8 @@ returns c =
     let lines = c.behind_mark-first.ensures.lines in
     let told : read.told.items ≡ replies_in text = c.in_ok-replies.ensures.told ∙ ap replies_from lines in
     let none : read.no_reply ≡ no_reply_from (behind_mark (lines_of text)) (number_behind (lines_of text)) =
-        c.in_ok-replies.ensures.no_reply ∙ ap (λ (ls : List (List ℕ)). no_reply_from ls c.behind_mark-first.result.1) lines
-        ∙ ap (λ (n : ℕ). no_reply_from (behind_mark (lines_of text)) n) c.behind_mark-first.ensures.number in
+    c.in_ok-replies.ensures.no_reply ∙ ap (λ (ls : List (List ℕ)). no_reply_from ls c.behind_mark-first.result.1) lines
+    ∙ ap (λ (n : ℕ). no_reply_from (behind_mark (lines_of text)) n) c.behind_mark-first.ensures.number in
     let Is : Answered → Type 0 = λ a. IsAnswered (before_mark (lines_of text)) read.told.items read.no_reply a in
     record {
       told = IfOk-weaker c.answer_requests.result Is (λ a. a.told ≡ answers_told text)
