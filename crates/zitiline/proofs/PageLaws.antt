@@ -10,7 +10,7 @@ use Rattle.live_lines.specs.declared.kinds.Kind.{Kind}
 use Rattle.zitiline.specs.declared.words.Asked.TheVariants.{Turn, Tell}
 use Rattle.zitiline.specs.declared.words.Form.TheVariants as form
 use Rattle.zitiline.specs.declared.status.Status.{Status}
-use Rattle.zitiline.specs.declared.status.Status.TheVariants.{Done, Usage, BadInput, ReadFault, WriteFault, NoMemory}
+use Rattle.zitiline.specs.declared.status.Status.TheVariants.{Done, Refused, Usage, BadInput, ReadFault, WriteFault, NoMemory}
 use Rattle.zitiline.specs.Notes.{notes_of, NotesLines}
 use Rattle.zitiline.specs.Headline.{Runs}
 use Rattle.zitiline.specs.Steps.{IsWriteCaused, LeavesFolder}
@@ -57,6 +57,7 @@ page_runs outside page before now Done same told caused left = record {
   found = left.found;
   failed_calls = left.failed_calls;
 }
+page_runs outside page before now Refused same told caused left = absurd told.says
 page_runs outside page before now Usage same told caused left = absurd told.says
 page_runs outside page before now BadInput same told caused left = absurd told.says
 page_runs outside page before now ReadFault same told caused left = absurd told.says

@@ -1,5 +1,5 @@
 -- What a run over an input did, by its parts.
-use Rattle.std.proofs.Common.{◌≡◌, ◌⊎◌, ℕ, List, [], None, Some, Err, refl, sym, ap, subst, ◌∙◌, inl, inr}
+use Rattle.std.proofs.Common.{◌≡◌, ◌⊎◌, ℕ, false, List, [], None, Some, Err, refl, sym, ap, subst, ◌∙◌, inl, inr}
 use Rattle.std.specs.declared.option.Option.{Option}
 use Rattle.std.specs.Option.{option_map}
 use Rattle.std.specs.Io.KnownBytes.{IsAtEnd}
@@ -25,7 +25,7 @@ use Rattle.zitiline.specs.declared.words.Form.{Form}
 use Rattle.zitiline.specs.declared.words.Form.TheVariants as form
 use Rattle.zitiline.specs.declared.words.Asked.TheVariants.{Turn, Tell}
 use Rattle.zitiline.specs.declared.status.Status.{Status}
-use Rattle.zitiline.specs.declared.status.Status.TheVariants.{Done, Usage, BadInput, ReadFault, WriteFault, NoMemory}
+use Rattle.zitiline.specs.declared.status.Status.TheVariants.{Done, Refused, Usage, BadInput, ReadFault, WriteFault, NoMemory}
 use Rattle.zitiline.specs.Answers.{fault_of, status_for}
 use Rattle.zitiline.specs.Notes.{notes_of, NotesLines}
 use Rattle.zitiline.specs.Headline.{Says, Answers, Runs}
@@ -91,6 +91,7 @@ still_in_time k left seen before now desk t = record { starts = t.starts; ends =
 says_whole : (w : Whole) (input : List ℕ) (left before now : Option (List ℕ)) (status : Status) → IsAtEnd left → SaysInput status w input before now
     → Says status (form.Whole w) input left before now
 says_whole w input left before now Done end says = (end, says.0, says.1)
+says_whole w input left before now Refused end says = (end, says.0, says.1)
 says_whole w input left before now Usage end says = absurd says
 says_whole w input left before now BadInput end says = (end, says.0, says.1)
 says_whole w input left before now ReadFault end says = absurd says
@@ -137,19 +138,19 @@ pub taken_write : (c : taking.Cut) (before now : ℕ) (status : Status) → stat
 taken_write taken.NoMemory before now status is same = record { calm = λ other. same; rose = λ e. cc }
 taken_write taken.Fault before now status is same = record { calm = λ other. same; rose = λ e. cc }
 
-decided : (fault : Option (List ℕ)) → status_for fault ≡ ReadFault → ⊥
+decided : (fault : Option (List ℕ)) → status_for fault false ≡ ReadFault → ⊥
 decided None is = cc
 decided (Some text) is = cc
 
-decided_said : (fault : Option (List ℕ)) → status_for fault ≡ WriteFault → ⊥
+decided_said : (fault : Option (List ℕ)) → status_for fault false ≡ WriteFault → ⊥
 decided_said None is = cc
 decided_said (Some text) is = cc
 
-no_read : (fault : Option (List ℕ)) (status : Status) → (status ≡ NoMemory) ⊎ (status ≡ status_for fault) → status ≡ ReadFault → ⊥
+no_read : (fault : Option (List ℕ)) (status : Status) → (status ≡ NoMemory) ⊎ (status ≡ status_for fault false) → status ≡ ReadFault → ⊥
 no_read fault status (inl none) is = cc
 no_read fault status (inr ends) is = decided fault (sym ends ∙ is)
 
-no_write : (fault : Option (List ℕ)) (status : Status) → (status ≡ NoMemory) ⊎ (status ≡ status_for fault) → status ≡ WriteFault → ⊥
+no_write : (fault : Option (List ℕ)) (status : Status) → (status ≡ NoMemory) ⊎ (status ≡ status_for fault false) → status ≡ WriteFault → ⊥
 no_write fault status (inl none) is = cc
 no_write fault status (inr ends) is = decided_said fault (sym ends ∙ is)
 
@@ -186,14 +187,14 @@ said_folder old mid new says notes = record {
 -- ---- an input that is told as it comes
 
 says_told : (kind : Kind) (input : List ℕ) (left before now : Option (List ℕ)) (fault : Option (List ℕ)) (status : Status) → IsAtEnd left → Took before now (text_of (reading_of kind) input)
-    → fault ≡ fault_of (form.Live kind) input → status ≡ status_for fault → Says status (form.Live kind) input left before now
+    → fault ≡ fault_of (form.Live kind) input → status ≡ status_for fault false → Says status (form.Live kind) input left before now
 says_told kind input left before now None status end took same is =
-    subst (λ (s : Status). Says s (form.Live kind) input left before now) (sym is) (end, took, ap status_for (sym same))
+    subst (λ (s : Status). Says s (form.Live kind) input left before now) (sym is) (end, took, ap (λ (f : Option (List ℕ)). status_for f false) (sym same))
 says_told kind input left before now (Some text) status end took same is =
-    subst (λ (s : Status). Says s (form.Live kind) input left before now) (sym is) (end, took, ap status_for (sym same))
+    subst (λ (s : Status). Says s (form.Live kind) input left before now) (sym is) (end, took, ap (λ (f : Option (List ℕ)). status_for f false) (sym same))
 
 ends_told : (kind : Kind) (input : List ℕ) (left before now : Option (List ℕ)) (fault : Option (List ℕ)) (status : Status) → IsAtEnd left → Took before now (text_of (reading_of kind) input)
-    → fault ≡ fault_of (form.Live kind) input → (status ≡ NoMemory) ⊎ (status ≡ status_for fault) → Says status (form.Live kind) input left before now
+    → fault ≡ fault_of (form.Live kind) input → (status ≡ NoMemory) ⊎ (status ≡ status_for fault false) → Says status (form.Live kind) input left before now
 ends_told kind input left before now fault status end took same (inl is) =
     subst (λ (s : Status). Says s (form.Live kind) input left before now) (sym is) (input, IsFront-all input, took)
 ends_told kind input left before now fault status end took same (inr is) = says_told kind input left before now fault status end took same is

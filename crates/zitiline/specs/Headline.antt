@@ -18,7 +18,7 @@ use Rattle.zitiline.specs.declared.words.Page.{Page}
 use Rattle.zitiline.specs.declared.words.Asked.{Asked}
 use Rattle.zitiline.specs.declared.words.Asked.TheVariants.{Turn, Tell}
 use Rattle.zitiline.specs.declared.status.Status.{Status}
-use Rattle.zitiline.specs.declared.status.Status.TheVariants.{Done, Usage, BadInput, ReadFault, WriteFault, NoMemory}
+use Rattle.zitiline.specs.declared.status.Status.TheVariants.{Done, Refused, Usage, BadInput, ReadFault, WriteFault, NoMemory}
 use Rattle.zitiline.specs.Answers.{said_of, fault_of, status_of}
 use Rattle.zitiline.specs.Notes.{notes_of, NotesLines}
 use Rattle.zitiline.specs.Pages.{TellsPage}
@@ -39,6 +39,7 @@ IsReadWhole (Live kind) left = ⊤
 -- of some first bytes of the input where memory was wanting.
 abbrev pub Says : Status → Form → List ℕ → Option (List ℕ) → Option (List ℕ) → Option (List ℕ) → Type 0
 Says Done form input left said_before said_now = IsAtEnd left × Took said_before said_now (said_of form input) × (status_of form input ≡ Done)
+Says Refused form input left said_before said_now = IsAtEnd left × Took said_before said_now (said_of form input) × (status_of form input ≡ Refused)
 Says Usage form input left said_before said_now = ⊥
 Says BadInput form input left said_before said_now = IsAtEnd left × Took said_before said_now (said_of form input) × (status_of form input ≡ BadInput)
 Says ReadFault form input left said_before said_now = SaysSoFar form input said_before said_now
@@ -52,7 +53,7 @@ pub record Answers (form : Form) (left_before left_now : Option (List ℕ)) (bef
   pub says : Says status form input left_now before.said now.said
   pub notes : NotesLines (notes_of (fault_of form input) status) before now
 
--- A run that was asked for one of the seven words alone, or for something else.
+-- A run that was asked for one of the eight words alone, or for something else.
 --
 -- Usage comes exactly where it was asked for something else: then nothing is taken and nothing is said, and the usage line is noted.
 -- Where a page about the program was asked for, nothing is taken either.

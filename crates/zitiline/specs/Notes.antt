@@ -5,7 +5,7 @@ use Rattle.ziti_outside.specs.Causes.{Rose}
 use Rattle.ziti_outside.specs.Told.{Took, TookFront}
 use Rattle.ziti_outside.specs.Views.{Seen}
 use Rattle.zitiline.specs.declared.status.Status.{Status}
-use Rattle.zitiline.specs.declared.status.Status.TheVariants.{Done, Usage, BadInput, ReadFault, WriteFault, NoMemory}
+use Rattle.zitiline.specs.declared.status.Status.TheVariants.{Done, Refused, Usage, BadInput, ReadFault, WriteFault, NoMemory}
 
 -- A note: what it tells behind the program's name, and a newline.
 abbrev pub note_of : List ℕ → List ℕ
@@ -19,7 +19,8 @@ fault_note (Some text) = note_of text
 -- The notes of a run that ended so, whose input has this fault or none.
 abbrev pub notes_of : Option (List ℕ) → Status → List ℕ
 notes_of fault Done = []
-notes_of fault Usage = note_of (codes "usage: zitiline encode | decode | trace | replies | check | help | version")
+notes_of fault Refused = []
+notes_of fault Usage = note_of (codes "usage: zitiline encode | decode | trace | replies | check | answers | help | version")
 notes_of fault BadInput = fault_note fault
 notes_of fault ReadFault = note_of (codes "read fault")
 notes_of fault WriteFault = note_of (codes "write fault")

@@ -6,7 +6,7 @@ use Rattle.ziti_outside.specs.Views.{Seen}
 use Rattle.zitiline.specs.declared.words.Page.{Page}
 use Rattle.zitiline.specs.declared.words.Page.TheVariants.{Help, Version}
 use Rattle.zitiline.specs.declared.status.Status.{Status}
-use Rattle.zitiline.specs.declared.status.Status.TheVariants.{Done, Usage, BadInput, ReadFault, WriteFault, NoMemory}
+use Rattle.zitiline.specs.declared.status.Status.TheVariants.{Done, Refused, Usage, BadInput, ReadFault, WriteFault, NoMemory}
 use Rattle.zitiline.specs.Notes.{notes_of, NotesLines}
 
 -- A page: a line for each word, or the version of the lines.
@@ -18,13 +18,15 @@ page_text Help =
     ++ (codes "trace    lines of sessions to a trace\n"
     ++ (codes "replies  tagged replies to lines, as they come\n"
     ++ (codes "check    lines to all faults that they have for encode\n"
+    ++ (codes "answers  lines, a line ---, and the lines of decode, to each line with its answer\n"
     ++ (codes "help     these lines\n"
-    ++ codes "version  the version of the lines\n"))))))
+    ++ codes "version  the version of the lines\n")))))))
 page_text Version = codes "zitiline 1\n"
 
 -- What a run that ended so has said of a page: all of it, or a front of it where the say failed. It ends no other way.
 abbrev pub PageSaid : Status → Page → Option (List ℕ) → Option (List ℕ) → Type 0
 PageSaid Done page before now = Took before now (page_text page)
+PageSaid Refused page before now = ⊥
 PageSaid Usage page before now = ⊥
 PageSaid BadInput page before now = ⊥
 PageSaid ReadFault page before now = ⊥

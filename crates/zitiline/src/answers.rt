@@ -6,16 +6,18 @@ ghost use Rattle.zitiline.specs.Steps.{IsAnswer, fault_text, note_in};
 
 use crate::notes::fault_note;
 use crate::words::Whole;
+use answer_lines::{AnswerFault, answers};
 use ctrl_model::Bytes;
 use frame_lines::{DecodeFault, LineFault, check, encode};
 use std::alloc::{AllocError, Global};
 use trace_lines::{TraceFault, trace};
 
-/// What is said of an input, and the note of its fault, if it has one.
+/// What is said of an input, the note of its fault, if it has one, and whether it has a refusal.
 #[derive(Drop)]
 pub struct Answer {
     pub said: Bytes,
     pub note: Option<String>,
+    pub refused: bool,
 }
 
 /// The fault of an input of each form.
@@ -24,6 +26,7 @@ pub enum Fault {
     Line(LineFault),
     Trace(TraceFault),
     Frame(DecodeFault),
+    Answers(AnswerFault),
 }
 
 fn text_of(alloc: Global, fault: &Fault) -> Result<String, AllocError>
@@ -33,6 +36,7 @@ fn text_of(alloc: Global, fault: &Fault) -> Result<String, AllocError>
         Fault::Line(fault) => fault.text(alloc),
         Fault::Trace(fault) => fault.text(alloc),
         Fault::Frame(fault) => fault.text(alloc),
+        Fault::Answers(fault) => fault.text(alloc),
     }
 }
 
@@ -48,11 +52,20 @@ pub fn note_of(alloc: Global, fault: Option<Fault>) -> Result<Option<String>, Al
 }
 
 // What is said, with the note of the fault, if there is one.
-fn answer_with(alloc: Global, said: Bytes, fault: Option<Fault>) -> Result<Answer, AllocError>
-    ensures { IfOk result (λ a. (a.said ≡ said) × (note_in a ≡ option_map (λ f. note_of (fault_text f)) fault)) }
+fn answer_with(
+    alloc: Global,
+    said: Bytes,
+    fault: Option<Fault>,
+    refused: bool,
+) -> Result<Answer, AllocError>
+    ensures { IfOk result (λ a. (a.said ≡ said) × (note_in a ≡ option_map (λ f. note_of (fault_text f)) fault) × (a.refused ≡ refused)) }
 {
     let note = note_of(alloc, fault)?;
-    Ok(Answer { said, note })
+    Ok(Answer {
+        said,
+        note,
+        refused,
+    })
 }
 
 /// What is said of an input that was read whole, and the note of its fault.
@@ -62,15 +75,20 @@ pub fn answer_to(alloc: Global, whole: Whole, input: &[u8]) -> Result<Answer, Al
     match whole {
         Whole::Encode => {
             let encoded = encode(alloc, input)?;
-            answer_with(alloc, encoded.bytes, encoded.fault.map(Fault::Line))
+            answer_with(alloc, encoded.bytes, encoded.fault.map(Fault::Line), false)
         }
         Whole::Trace => {
             let traced = trace(alloc, input)?;
-            answer_with(alloc, traced.bytes, traced.fault.map(Fault::Trace))
+            answer_with(alloc, traced.bytes, traced.fault.map(Fault::Trace), false)
         }
         Whole::Check => {
             let checked = check(alloc, input)?;
-            answer_with(alloc, checked.told, checked.fault.map(Fault::Line))
+            answer_with(alloc, checked.told, checked.fault.map(Fault::Line), false)
+        }
+        Whole::Answers => {
+            let answered = answers(alloc, input)?;
+            let fault = answered.fault.map(Fault::Answers);
+            answer_with(alloc, answered.told, fault, answered.refused)
         }
     }
 }

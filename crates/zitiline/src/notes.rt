@@ -13,7 +13,7 @@ pub fn status_note(status: Status) -> &'static [u8]
 {
     match status {
         Status::Usage =>
-            b"zitiline: usage: zitiline encode | decode | trace | replies | check | help | version\n",
+            b"zitiline: usage: zitiline encode | decode | trace | replies | check | answers | help | version\n",
         Status::ReadFault => b"zitiline: read fault\n",
         Status::WriteFault => b"zitiline: write fault\n",
         Status::NoMemory => b"zitiline: no memory\n",

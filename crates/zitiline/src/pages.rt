@@ -14,6 +14,7 @@ pub fn page_text(page: Page) -> &'static [u8]
               trace    lines of sessions to a trace\n\
               replies  tagged replies to lines, as they come\n\
               check    lines to all faults that they have for encode\n\
+              answers  lines, a line ---, and the lines of decode, to each line with its answer\n\
               help     these lines\n\
               version  the version of the lines\n",
         Page::Version => b"zitiline 1\n",

@@ -56,9 +56,20 @@ fn told_status(cut: live_lines::Cut) -> Status
     }
 }
 
-// Notes the fault of an input, if there is one, and answers the status that it decides.
-fn end_by<D: Desk>(note: &Option<String>, desk: &mut D) -> Status
-    ensures status { result ≡ status_for (option_map string_bytes note.now) }
+// The status of an input without a fault.
+fn faultless_status(refused: bool) -> Status
+    ensures { result ≡ status_for None refused }
+{
+    if refused {
+        Status::Refused
+    } else {
+        Status::Done
+    }
+}
+
+// Notes the fault of an input, if there is one, and answers the status that it decides, or else a refusal.
+fn end_by<D: Desk>(note: &Option<String>, refused: bool, desk: &mut D) -> Status
+    ensures status { result ≡ status_for (option_map string_bytes note.now) refused }
     ensures noted { NotesLines (note_bytes (option_map string_bytes note.now)) (D.seen desk.old) (D.seen desk.new) }
     ensures others { OnlyNotes D.seen D.stopped desk.old desk.new }
 {
@@ -69,7 +80,7 @@ fn end_by<D: Desk>(note: &Option<String>, desk: &mut D) -> Status
         }
         None => {
             note_lines(b"", desk);
-            Status::Done
+            faultless_status(refused)
         }
     }
 }
@@ -81,7 +92,7 @@ fn say_answer<D: Desk>(answer: &Answer, desk: &mut D) -> Status
     ensures folder { LeavesFolder D.seen D.stopped desk.old desk.new }
 {
     match desk.say(answer.said.as_slice()) {
-        Ok(()) => end_by(&answer.note, desk),
+        Ok(()) => end_by(&answer.note, answer.refused, desk),
         Err(Failed) => end_with(Status::WriteFault, desk),
     }
 }
@@ -121,7 +132,7 @@ fn end_told<D: Desk>(alloc: Global, fault: Option<DecodeFault>, desk: &mut D) ->
     ensures others { OnlyNotes D.seen D.stopped desk.old desk.new }
 {
     match note_of(alloc, fault.map(Fault::Frame)) {
-        Ok(note) => end_by(&note, desk),
+        Ok(note) => end_by(&note, false, desk),
         Err(AllocError) => end_with(Status::NoMemory, desk),
     }
 }

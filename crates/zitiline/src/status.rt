@@ -6,7 +6,9 @@ ghost use Rattle.zitiline.specs.Statuses.{number_of};
 pub enum Status {
     /// The input was read to its end, and all of it said.
     Done,
-    /// The words are none of the seven.
+    /// A request is refused or unanswered, or a reply is to no request. All was said.
+    Refused,
+    /// The words are none of the eight.
     Usage,
     /// A line is at fault, or no line tells a frame.
     BadInput,
@@ -27,6 +29,7 @@ impl Status {
             Status::Done => 0,
             Status::Usage => 1,
             Status::BadInput => 2,
+            Status::Refused => 3,
             Status::ReadFault => 4,
             Status::WriteFault => 5,
             Status::NoMemory => 8,

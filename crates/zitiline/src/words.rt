@@ -31,6 +31,8 @@ pub enum Whole {
     Trace,
     /// All faults of lines.
     Check,
+    /// Lines of requests and of their replies to each request with its answer.
+    Answers,
 }
 
 /// A page about the program.
@@ -42,7 +44,7 @@ pub enum Page {
     Version,
 }
 
-/// What the words ask for, if they are one of the seven alone.
+/// What the words ask for, if they are one of the eight alone.
 pub fn asked_of(words: &[String]) -> Option<Asked>
     ensures { result ≡ asked_of (map string_bytes words.now) }
 {
@@ -61,6 +63,9 @@ pub fn asked_of(words: &[String]) -> Option<Asked>
         ))),
         [word] if word.as_bytes() == b"check".as_slice() => Some(Asked::Turn(Form::Whole(
             Whole::Check,
+        ))),
+        [word] if word.as_bytes() == b"answers".as_slice() => Some(Asked::Turn(Form::Whole(
+            Whole::Answers,
         ))),
         [word] if word.as_bytes() == b"help".as_slice() => Some(Asked::Tell(Page::Help)),
         [word] if word.as_bytes() == b"version".as_slice() => Some(Asked::Tell(Page::Version)),

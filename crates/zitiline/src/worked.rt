@@ -5,9 +5,9 @@ ghost use Rattle.trace_lines.specs.WorkedTexts.{one_story, reply_of_3};
 ghost use Rattle.zitiline.specs.declared.words.Asked.TheVariants.{Turn, Tell};
 ghost use Rattle.live_lines.specs.declared.kinds.Kind.TheVariants.{Frames, Replies};
 ghost use Rattle.zitiline.specs.declared.words.Form.TheVariants.{Whole, Live};
-ghost use Rattle.zitiline.specs.declared.words.Whole.TheVariants.{Encode, Trace, Check};
+ghost use Rattle.zitiline.specs.declared.words.Whole.TheVariants.{Encode, Trace, Check, Answers};
 ghost use Rattle.zitiline.specs.declared.words.Page.TheVariants.{Help, Version};
-ghost use Rattle.zitiline.specs.declared.status.Status.TheVariants.{Done, BadInput, ReadFault};
+ghost use Rattle.zitiline.specs.declared.status.Status.TheVariants.{Done, Refused, BadInput, ReadFault};
 ghost use Rattle.zitiline.specs.Words.{asked_of};
 ghost use Rattle.zitiline.specs.Answers.{said_of, fault_of, status_of};
 ghost use Rattle.zitiline.specs.Notes.{notes_of};
@@ -19,6 +19,7 @@ pub fn worked_words()
     ensures trace { asked_of (codes "trace" ∷ []) ≡ Some (Turn (Whole Trace)) }
     ensures replies { asked_of (codes "replies" ∷ []) ≡ Some (Turn (Live Replies)) }
     ensures check { asked_of (codes "check" ∷ []) ≡ Some (Turn (Whole Check)) }
+    ensures answers { asked_of (codes "answers" ∷ []) ≡ Some (Turn (Whole Answers)) }
     ensures help { asked_of (codes "help" ∷ []) ≡ Some (Tell Help) }
     ensures version { asked_of (codes "version" ∷ []) ≡ Some (Tell Version) }
     ensures none { asked_of [] ≡ None }
@@ -43,5 +44,10 @@ pub fn worked_answers()
     ensures checked { said_of (Whole Check) (codes "Hello\nHelo {}\n") ≡ codes "line 2: unknown type at column 1: NAME is the name of a command; near is Hello\n" }
     ensures check_noted { notes_of (fault_of (Whole Check) (codes "Hello\nHelo {}\n")) BadInput ≡ codes "zitiline: line 2: unknown type\n" }
     ensures check_ends { status_of (Whole Check) (codes "Hello {}\n\n7 1502 {}\n") ≡ Done }
+    ensures answered { said_of (Whole Answers) (codes "Hello\nHello\n---\n1 ok\n2 refused {}\n") ≡ codes "1 Hello -> ok\n2 Hello -> refused {}\n" }
+    ensures answered_refused { status_of (Whole Answers) (codes "Hello\nHello\n---\n1 ok\n2 refused {}\n") ≡ Refused }
+    ensures answered_ends { status_of (Whole Answers) (codes "Hello\n---\n1 ok\n") ≡ Done }
+    ensures refused_notes { notes_of (fault_of (Whole Answers) (codes "Hello\n")) Refused ≡ [] }
+    ensures no_reply_noted { notes_of (fault_of (Whole Answers) (codes "Hello\n---\nHello\n")) BadInput ≡ codes "zitiline: line 3: no reply\n" }
     ensures fault_noted { notes_of None ReadFault ≡ codes "zitiline: read fault\n" }
 {}

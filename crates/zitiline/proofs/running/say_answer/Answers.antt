@@ -11,7 +11,7 @@ returns-in-Ok-clause-says g c =
     let before = (g.D.Desk.seen c.args.desk.now).said in
     let mid = (g.D.Desk.seen c.say.new.self).said in
     let took = subst (λ (bytes : List ℕ). Took before mid bytes) c.as_slice.ensures c.in-Ok.ensures.taken in
-    says_by answer (note_in answer) c.end_by.result before (g.D.Desk.seen c.end_by.new.desk).said refl c.end_by.ensures.status
+    says_by answer (note_in answer) answer.refused c.end_by.result before (g.D.Desk.seen c.end_by.new.desk).said refl refl c.end_by.ensures.status
     (subst (λ (now : Option (List ℕ)). Took before now answer.said) (sym c.end_by.ensures.others.replies) took)
 
 pub returns-in-Err-clause-says : goal.returns-in-Err-clause-says
@@ -27,7 +27,7 @@ pub returns-in-Ok-clause-noted : goal.returns-in-Ok-clause-noted
 returns-in-Ok-clause-noted g c =
     let answer = c.args.answer.now in
     let others = c.say.ensures.others in
-    noted_by answer (note_in answer) c.end_by.result (g.D.Desk.seen c.args.desk.now) (g.D.Desk.seen c.say.new.self) (g.D.Desk.seen c.end_by.new.desk)
+    noted_by answer (note_in answer) answer.refused c.end_by.result (g.D.Desk.seen c.args.desk.now) (g.D.Desk.seen c.say.new.self) (g.D.Desk.seen c.end_by.new.desk)
     refl c.end_by.ensures.status others.notes others.failed_notes c.end_by.ensures.noted
 
 pub returns-in-Err-clause-noted : goal.returns-in-Err-clause-noted

@@ -22,5 +22,10 @@ returns c = record {
   checked = refl;
   check_noted = refl;
   check_ends = refl;
+  answered = refl;
+  answered_refused = refl;
+  answered_ends = refl;
+  refused_notes = refl;
+  no_reply_noted = refl;
   fault_noted = refl;
 }
