@@ -31,6 +31,7 @@ pub use lines::{Line, LineCause, LineFault, line_words};
 pub use reading::{passes, read_line};
 pub use telling::put_line;
 pub use told::{DecodeCause, DecodeFault, TellCause};
+pub use types::name_numbered;
 pub use words::number_in;
 pub use worked::{
     worked_checks, worked_cuts, worked_frames, worked_lines, worked_tellings, worked_text,

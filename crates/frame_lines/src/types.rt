@@ -85,8 +85,8 @@ pub(crate) fn number_named(name: &[u8]) -> Option<u32>
     number_among(types(), name)
 }
 
-/// The name of a content type, if it has one.
-pub(crate) fn name_numbered(number: u32) -> Option<&'static str>
+/// The name of a content type, if it has one (docs/FORMATS.md, "Lines for people").
+pub fn name_numbered(number: u32) -> Option<&'static str>
     ensures { option_map (λ name. name.now) result ≡ name_numbered number }
 {
     name_among(types(), number)
