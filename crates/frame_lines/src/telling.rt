@@ -3,7 +3,7 @@ ghost use Rattle.channel_frame.specs.StreamReading.{number_at};
 ghost use Rattle.std.specs.List.{list_any};
 ghost use Rattle.std.specs.Option.{option_map};
 ghost use Rattle.std.specs.String.{string_bytes};
-ghost use Rattle.frame_lines.specs.FrameLines.{is_header, is_request, is_success, wide_of, piece_in, piece_of, piece_words, reply_in, reply_of, reply_words, frame_words, words_for, body_words, body_cause, line_from, line_for};
+ghost use Rattle.frame_lines.specs.FrameLines.{is_header, is_request, is_success, wide_of, piece_in, piece_of, piece_words, reply_in, reply_of, reply_words, sort_words, frame_words, words_for, body_words, body_cause, line_from, line_for};
 ghost use Rattle.frame_lines.specs.FrameTurns.{PutsLine};
 
 use crate::told::TellCause;
@@ -121,22 +121,26 @@ fn piece_of(frame: &Frame) -> Option<(u64, (u32, u32))>
     }
 }
 
+// What stands before the serial, by the sort of the batch.
+fn sort_words(content: u32) -> &'static str
+    ensures { result.now ≡ sort_words content }
+{
+    if content == 1900 {
+        " whole serial="
+    } else {
+        " next serial="
+    }
+}
+
 // The line of a frame that carries a piece with these numbers in its headers.
 fn piece_words(alloc: Global, frame: &Frame, piece: (u64, (u32, u32))) -> Result<String, AllocError>
     ensures { IfOk result (λ words. string_bytes words ≡ piece_words frame.now piece) }
 {
     let sequence = frame.sequence;
+    let sort = sort_words(frame.content);
     let (serial, (number, count)) = piece;
     let len = frame.body.len();
-    if frame.content == 1900 {
-        format!(in alloc;
-            "{sequence} whole serial={serial} piece={number} count={count} bytes={len}"
-        )
-    } else {
-        format!(in alloc;
-            "{sequence} next serial={serial} piece={number} count={count} bytes={len}"
-        )
-    }
+    format!(in alloc; "{sequence}{sort}{serial} piece={number} count={count} bytes={len}")
 }
 
 // What the line of a frame begins with, if a line can tell its headers.
