@@ -59,16 +59,16 @@ piece_in (h ∷ k ∷ l ∷ m ∷ headers) = None
 abbrev pub piece_of : Frame → Option (ℕ × (ℕ × ℕ))
 piece_of f = if (f.content == 1900) || (f.content == 1901) then piece_in f.headers else None
 
--- The sort of a batch.
-abbrev pub sort_words : ℕ → List ℕ
-sort_words content = if content == 1900 then codes " whole serial=" else codes " next serial="
+-- What the line of a piece ends with, behind its serial's key: the serial, the piece's number and their count, and how many bytes the body has, which
+-- are not told.
+abbrev pub piece_numbers : Frame → ℕ × (ℕ × ℕ) → List ℕ
+piece_numbers f piece =
+    decimal piece.0 ++ (codes " piece=" ++ (decimal piece.1.0 ++ (codes " count=" ++ (decimal piece.1.1 ++ (codes " bytes=" ++ decimal (length f.body))))))
 
--- The line of a piece: the frame's sequence number, the sort of the batch, its serial, the piece's number and their count, and how many bytes the
--- body has, which are not told.
+-- The line of a piece: the frame's sequence number, the sort of the batch, and the numbers.
 abbrev pub piece_words : Frame → ℕ × (ℕ × ℕ) → List ℕ
 piece_words f piece =
-    decimal f.sequence
-    ++ (sort_words f.content ++ (decimal piece.0 ++ (codes " piece=" ++ (decimal piece.1.0 ++ (codes " count=" ++ (decimal piece.1.1 ++ (codes " bytes=" ++ decimal (length f.body))))))))
+    if f.content == 1900 then decimal f.sequence ++ (codes " whole serial=" ++ piece_numbers f piece) else decimal f.sequence ++ (codes " next serial=" ++ piece_numbers f piece)
 
 -- A content type by its name, where it has one, else by its number.
 abbrev pub name_or : Option (List ℕ) → ℕ → List ℕ
