@@ -5,7 +5,7 @@ use Rattle.ctrl_serve.proofs.CopyLaws.{copy_found, copy_next, copy_replied, copy
 use Rattle.ctrl_serve.proofs.following.FollowingCopyAnswersFrames.answer.Goals as goal
 
 pub take-requires : goal.take-requires
-take-requires g c = λ fresh told. stands_as c.args.self.now.follower g.D.Desk.tells _ _ c.requires.ready told
+take-requires g c = record { stands = λ fresh told. stands_as c.args.self.now.follower g.D.Desk.tells _ _ c.requires.ready told }
 
 pub returns-in_ok-write_answer-in-Ok-clause-next : goal.returns-in_ok-write_answer-in-Ok-clause-next
 returns-in_ok-write_answer-in-Ok-clause-next g c =
