@@ -1,0 +1,8 @@
+use Rattle.std.proofs.Common.{sym, ap, ◌∙◌}
+use Rattle.folder_findings.specs.FoundFiles.{header_format}
+use Rattle.folder_findings.proofs.SpanLaws.{front_read}
+use Rattle.folder_findings.proofs.finding.format_of.Goals as goal
+
+pub returns-clause-format : goal.returns-clause-format
+returns-clause-format g c = λ told.
+    c.header_format.ensures ∙ ap header_format (sym (front_read c.read_at.new.buf _ c.read_at.auto.buf (c.in_ok-read_at.ensures.read told)))

@@ -1,0 +1,163 @@
+-- What is found in a folder as lines of text, each with the way back where something is wrong (docs/FORMATS.md, "Findings of a folder").
+use Rattle.std.specs.Prelude.{ℕ, zero, suc, ◌+◌, Bool, true, false, not, cond, ◌&&◌, ◌||◌, ◌==◌, nat_lt, List, [], ◌++◌, codes, decimal, None, Some}
+use Rattle.std.specs.declared.option.Option.{Option}
+use Rattle.ziti_outside.specs.declared.desk.Part.{Part}
+use Rattle.ziti_outside.specs.declared.desk.Part.TheVariants.{Zero, One, Mark}
+use Rattle.journal_core.specs.Slots.{format_number}
+use Rattle.slot_files.specs.FolderImage.{slot_of}
+use Rattle.folder_findings.specs.declared.spans.Gate.{Gate}
+use Rattle.folder_findings.specs.declared.spans.Gate.TheVariants.{Closed, Missing, Cut}
+use Rattle.folder_findings.specs.declared.finding.FoundSlot.{FoundSlot}
+use Rattle.folder_findings.specs.declared.finding.FoundSlot.TheVariants.{Headless, Journal}
+use Rattle.folder_findings.specs.declared.finding.FoundFiles.{FoundFiles}
+use Rattle.folder_findings.specs.declared.causes.Cause.{Cause}
+use Rattle.folder_findings.specs.declared.causes.Cause.TheVariants.{NoHeader, NoGate, NoBatch, NoNext, NoState}
+use Rattle.folder_findings.specs.declared.causes.Verdict.{Verdict}
+use Rattle.folder_findings.specs.declared.causes.Verdict.TheVariants.{Opens, Damaged}
+
+-- ---- what is wrong
+
+-- A slot has records, behind open gates or behind a closed one.
+abbrev pub has_records : FoundSlot → Bool
+has_records (Headless len) = false
+has_records (Journal format len span hidden) = nat_lt 0 span.records || nat_lt 0 hidden
+
+-- The mark is empty though a slot has records.
+abbrev pub is_lost : FoundFiles → Bool
+is_lost f = f.mark == 0 && (has_records f.first || has_records f.second)
+
+-- The slot that a mark of so many bytes names, if it has any.
+abbrev pub named_by : ℕ → Option Part
+named_by zero = None
+named_by (suc turn) = Some (slot_of (suc turn))
+
+-- Whether this slot is named.
+abbrev pub is_named : Part → Option Part → Bool
+is_named Zero (Some Zero) = true
+is_named One (Some One) = true
+is_named _ _ = false
+
+-- Whether a gate is none at which a run leaves a slot: no closed one, or one that hides records.
+abbrev pub is_wrong_gate : Gate → (hidden : ℕ) → Bool
+is_wrong_gate Closed hidden = nat_lt 0 hidden
+is_wrong_gate Missing hidden = true
+is_wrong_gate Cut hidden = true
+
+-- Whether the slot that stands has no header, or ends at such a gate.
+abbrev pub is_wrong : FoundSlot → Bool
+is_wrong (Headless len) = true
+is_wrong (Journal format len span hidden) = is_wrong_gate span.gate hidden
+
+-- Whether a folder opens to a state.
+abbrev pub does_open : Verdict → Bool
+does_open Opens = true
+does_open (Damaged part at cause) = false
+
+-- Whether nothing is wrong.
+abbrev pub is_well : FoundFiles → Verdict → Bool
+is_well f v =
+    not (is_lost f) && (not (is_named Zero (named_by f.mark) && is_wrong f.first) && (not (is_named One (named_by f.mark) && is_wrong f.second) && does_open v))
+
+-- ---- words
+
+-- The name of the file of a part.
+abbrev pub file_name : Part → List ℕ
+file_name Zero = codes "ziti.0"
+file_name One = codes "ziti.1"
+file_name Mark = codes "ziti.mark"
+
+-- The first word of a line: whether something is wrong.
+abbrev pub verdict_word : Bool → List ℕ
+verdict_word wrong = cond wrong (codes "found ") (codes "ok ")
+
+-- What stands at a gate.
+abbrev pub gate_word : Gate → List ℕ
+gate_word Closed = codes "closed"
+gate_word Missing = codes "missing"
+gate_word Cut = codes "cut"
+
+-- Why a folder is damaged at a place.
+abbrev pub cause_word : Cause → List ℕ
+cause_word NoHeader = codes "no-header"
+cause_word NoGate = codes "no-gate"
+cause_word NoBatch = codes "no-batch"
+cause_word NoNext = codes "no-next"
+cause_word NoState = codes "no-state"
+
+-- ---- ways back
+
+-- Nothing in the file leads back.
+abbrev pub copy_back : List ℕ
+copy_back = codes ": put a copy of the files in their place\n"
+
+-- A byte at a place does.
+abbrev pub byte_back : (byte : List ℕ) → (at : ℕ) → List ℕ
+byte_back byte at = codes ": copy the files, and write a byte " ++ (byte ++ (codes " at " ++ (decimal at ++ codes "\n")))
+
+-- The way back to the records behind a gate, or before it.
+abbrev pub gate_back : Gate → (at : ℕ) → List ℕ
+gate_back Closed at = byte_back (codes "1") at
+gate_back Missing at = byte_back (codes "0") at
+gate_back Cut at = byte_back (codes "0") at
+
+-- The way back from damage at a place.
+abbrev pub cause_back : Cause → (at : ℕ) → List ℕ
+cause_back NoHeader at = copy_back
+cause_back NoGate at = byte_back (codes "0") at
+cause_back NoBatch at = byte_back (codes "0") at
+cause_back NoNext at = byte_back (codes "0") at
+cause_back NoState at = copy_back
+
+-- The way back to a lost mark: a byte where the first slot alone has records, two where the second alone has, and else there are two.
+abbrev pub mark_back : (first second : Bool) → List ℕ
+mark_back true false = codes ": run nothing here, copy the files, and write 1 byte to ziti.mark\n"
+mark_back false second = codes ": run nothing here, copy the files, and write 2 bytes to ziti.mark\n"
+mark_back true true = codes ": run nothing here, copy the files, and write 1 byte to ziti.mark for ziti.0, or 2 for ziti.1\n"
+
+-- ---- lines
+
+-- The line of a mark that is empty.
+abbrev pub empty_line : (first second : Bool) → List ℕ
+empty_line false false = codes "ok ziti.mark bytes=0\n"
+empty_line first second = codes "found ziti.mark bytes=0" ++ mark_back first second
+
+-- The line of a mark, by the slot that it names, if it names one.
+abbrev pub named_line : Option Part → FoundFiles → List ℕ
+named_line None f = empty_line (has_records f.first) (has_records f.second)
+named_line (Some part) f = codes "ok ziti.mark bytes=" ++ (decimal f.mark ++ (codes " stands=" ++ (file_name part ++ codes "\n")))
+
+-- The line of the mark.
+abbrev pub mark_line : FoundFiles → List ℕ
+mark_line f = named_line (named_by f.mark) f
+
+-- What a slot has, by key.
+abbrev pub slot_text : FoundSlot → List ℕ
+slot_text (Headless len) = codes " bytes=" ++ (decimal len ++ codes " format=none")
+slot_text (Journal format len span hidden) =
+    codes " bytes=" ++ (decimal len
+    ++ (codes " format=" ++ (decimal (format_number format)
+    ++ (codes " records=" ++ (decimal span.records
+    ++ (codes " gate=" ++ (gate_word span.gate
+    ++ (codes " at=" ++ (decimal span.at
+    ++ (codes " hidden=" ++ decimal hidden))))))))))
+
+-- The way back of a slot that is wrong.
+abbrev pub slot_back : FoundSlot → List ℕ
+slot_back (Headless len) = copy_back
+slot_back (Journal format len span hidden) = gate_back span.gate span.at
+
+-- The line of a slot, by whether it stands.
+abbrev pub slot_line : Part → (stands : Bool) → FoundSlot → List ℕ
+slot_line part stands slot =
+    verdict_word (stands && is_wrong slot) ++ (file_name part ++ (slot_text slot ++ cond (stands && is_wrong slot) (slot_back slot) (codes "\n")))
+
+-- The line of the state.
+abbrev pub state_line : Verdict → List ℕ
+state_line Opens = codes "ok state\n"
+state_line (Damaged part at cause) =
+    codes "found state file=" ++ (file_name part ++ (codes " at=" ++ (decimal at ++ (codes " cause=" ++ (cause_word cause ++ cause_back cause at)))))
+
+-- The lines of what is found: of the mark, of each slot, and of the state.
+abbrev pub lines_of : FoundFiles → Verdict → List ℕ
+lines_of f v =
+    mark_line f ++ (slot_line Zero (is_named Zero (named_by f.mark)) f.first ++ (slot_line One (is_named One (named_by f.mark)) f.second ++ state_line v))
