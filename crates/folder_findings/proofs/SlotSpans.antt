@@ -22,8 +22,9 @@ whole_len : (n : ℕ) (rest : List ℕ) → n < 2 ^ 32 → n ≤ length rest →
 whole_len n rest small le =
     let bytes = to_le_bytes w32 n ++ rest in
     let number : number_of bytes ≡ n = from_le_bytes-to_le_bytes_4 n small in
-    let four : nat_le 4 (length bytes) ≡ true = le-leb 4 (4 + length rest) (omega arith) in
-    let within : nat_le (4 + n) (length bytes) ≡ true = le-leb (4 + n) (4 + length rest) (omega arith) in
+    let long : length bytes ≡ 4 + length rest = length-append (to_le_bytes w32 n) rest in
+    let four : nat_le 4 (length bytes) ≡ true = le-leb 4 (length bytes) (omega arith) in
+    let within : nat_le (4 + n) (length bytes) ≡ true = le-leb (4 + n) (length bytes) (omega arith) in
     ap (λ (k : ℕ). cond (nat_le 4 (length bytes) && nat_le (4 + k) (length bytes)) (Some k) None) number
     ∙ ap (λ (b : Bool). cond (b && nat_le (4 + n) (length bytes)) (Some n) None) four
     ∙ ap (λ (b : Bool). cond b (Some n) None) within

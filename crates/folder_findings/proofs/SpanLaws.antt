@@ -14,10 +14,14 @@ use Rattle.folder_findings.specs.Spans.{behind_open, ended, record_len, span_pas
 
 -- Bytes that are passed over are left out.
 pub past_skipped : (bytes : List ℕ) (skipped at records : ℕ) → skipped ≤ length bytes → span_past bytes skipped at records ≡ span_past (drop skipped bytes) 0 (at + skipped) records
-past_skipped bytes zero at records le = ap (λ (n : ℕ). span_past bytes 0 n records) (omega arith)
+past_skipped bytes zero at records le =
+    let same : at ≡ at + 0 = omega arith in
+    ap (λ (n : ℕ). span_past bytes 0 n records) same
 past_skipped [] (suc skipped) at records le = absurd (omega arith)
 past_skipped (byte ∷ bytes) (suc skipped) at records le =
-    past_skipped bytes skipped (at + 1) records (omega arith) ∙ ap (λ (n : ℕ). span_past (drop skipped bytes) 0 n records) (omega arith)
+    let same : at + 1 + skipped ≡ at + suc skipped = omega arith in
+    let fits : skipped ≤ length bytes = omega arith in
+    past_skipped bytes skipped (at + 1) records fits ∙ ap (λ (n : ℕ). span_past (drop skipped bytes) 0 n records) same
 
 -- Where the bytes have ended no gate stands.
 pub past_end : (at records : ℕ) (bytes : List ℕ) → length bytes ≤ at → span_past (drop at bytes) 0 at records ≡ ended Missing at records
@@ -57,12 +61,6 @@ pub past_record : (at records byte n next : ℕ) (bytes : List ℕ) → (byte ==
     → next ≡ at + 5 + n → next ≤ length bytes → span_past (drop at bytes) 0 at records ≡ span_past (drop next bytes) 0 next (records + 1)
 past_record at records byte n next bytes is here some place within =
     past_gate at records byte true (drop (at + 1) bytes) bytes is here ∙ goes_on at records n next bytes some place within
-
--- A byte that was read is the first of the bytes from its place on.
-pub byte_read : (at byte : ℕ) (whole : List ℕ) → StandAt at (byte ∷ []) whole → drop at whole ≡ byte ∷ drop (at + 1) whole
-byte_read at byte whole read =
-    let behind : read.0 ≡ drop (at + 1) whole = ap (λ (l : List ℕ). drop 1 l) read.1 ∙ drop-drop 1 at whole in
-    sym read.1 ∙ ap (λ (l : List ℕ). byte ∷ l) behind
 
 -- Bytes that were read at the front are the first ones.
 pub front_read : (bytes whole : List ℕ) → length bytes ≡ 8 → StandAt 0 bytes whole → take 8 whole ≡ bytes

@@ -1,12 +1,14 @@
 -- What is found in a folder as lines of text, each with the way back where something is wrong (docs/FORMATS.md, "Findings of a folder").
-use Rattle.std.specs.Prelude.{ℕ, zero, suc, ◌+◌, Bool, true, false, not, cond, ◌&&◌, ◌||◌, ◌==◌, nat_lt, List, [], ◌++◌, codes, decimal, None, Some}
+use Rattle.std.specs.Prelude.{ℕ, Bool, true, false, not, cond, ◌&&◌, ◌||◌, ◌==◌, nat_lt, List, [], ◌++◌, codes, decimal, None, Some}
 use Rattle.std.specs.declared.option.Option.{Option}
 use Rattle.ziti_outside.specs.declared.desk.Part.{Part}
 use Rattle.ziti_outside.specs.declared.desk.Part.TheVariants.{Zero, One, Mark}
+use Rattle.ctrl_model.specs.declared.formats.Format.{Format}
 use Rattle.journal_core.specs.Slots.{format_number}
 use Rattle.slot_files.specs.FolderImage.{slot_of}
 use Rattle.folder_findings.specs.declared.spans.Gate.{Gate}
 use Rattle.folder_findings.specs.declared.spans.Gate.TheVariants.{Closed, Missing, Cut}
+use Rattle.folder_findings.specs.declared.spans.Span.{Span}
 use Rattle.folder_findings.specs.declared.finding.FoundSlot.{FoundSlot}
 use Rattle.folder_findings.specs.declared.finding.FoundSlot.TheVariants.{Headless, Journal}
 use Rattle.folder_findings.specs.declared.finding.FoundFiles.{FoundFiles}
@@ -28,14 +30,21 @@ is_lost f = f.mark == 0 && (has_records f.first || has_records f.second)
 
 -- The slot that a mark of so many bytes names, if it has any.
 abbrev pub named_by : ℕ → Option Part
-named_by zero = None
-named_by (suc turn) = Some (slot_of (suc turn))
+named_by mark = cond (mark == 0) None (Some (slot_of mark))
 
--- Whether this slot is named.
-abbrev pub is_named : Part → Option Part → Bool
-is_named Zero (Some Zero) = true
-is_named One (Some One) = true
-is_named _ _ = false
+-- Whether the first slot is named.
+abbrev pub is_first : Option Part → Bool
+is_first None = false
+is_first (Some Zero) = true
+is_first (Some One) = false
+is_first (Some Mark) = false
+
+-- Whether the second one is.
+abbrev pub is_second : Option Part → Bool
+is_second None = false
+is_second (Some Zero) = false
+is_second (Some One) = true
+is_second (Some Mark) = false
 
 -- Whether a gate is none at which a run leaves a slot: no closed one, or one that hides records.
 abbrev pub is_wrong_gate : Gate → (hidden : ℕ) → Bool
@@ -56,7 +65,7 @@ does_open (Damaged part at cause) = false
 -- Whether nothing is wrong.
 abbrev pub is_well : FoundFiles → Verdict → Bool
 is_well f v =
-    not (is_lost f) && (not (is_named Zero (named_by f.mark) && is_wrong f.first) && (not (is_named One (named_by f.mark) && is_wrong f.second) && does_open v))
+    not (is_lost f) && (not (is_first (named_by f.mark) && is_wrong f.first) && (not (is_second (named_by f.mark) && is_wrong f.second) && does_open v))
 
 -- ---- words
 
@@ -92,7 +101,7 @@ copy_back = codes ": put a copy of the files in their place\n"
 
 -- A byte at a place does.
 abbrev pub byte_back : (byte : List ℕ) → (at : ℕ) → List ℕ
-byte_back byte at = codes ": copy the files, and write a byte " ++ (byte ++ (codes " at " ++ (decimal at ++ codes "\n")))
+byte_back byte at = (codes ": copy the files, and write a byte " ++ byte) ++ ((codes " at " ++ decimal at) ++ codes "\n")
 
 -- The way back to the records behind a gate, or before it.
 abbrev pub gate_back : Gate → (at : ℕ) → List ℕ
@@ -119,27 +128,30 @@ mark_back true true = codes ": run nothing here, copy the files, and write 1 byt
 -- The line of a mark that is empty.
 abbrev pub empty_line : (first second : Bool) → List ℕ
 empty_line false false = codes "ok ziti.mark bytes=0\n"
-empty_line first second = codes "found ziti.mark bytes=0" ++ mark_back first second
+empty_line false true = codes "found ziti.mark bytes=0" ++ mark_back false true
+empty_line true second = codes "found ziti.mark bytes=0" ++ mark_back true second
 
 -- The line of a mark, by the slot that it names, if it names one.
 abbrev pub named_line : Option Part → FoundFiles → List ℕ
 named_line None f = empty_line (has_records f.first) (has_records f.second)
-named_line (Some part) f = codes "ok ziti.mark bytes=" ++ (decimal f.mark ++ (codes " stands=" ++ (file_name part ++ codes "\n")))
+named_line (Some part) f = (codes "ok ziti.mark bytes=" ++ decimal f.mark) ++ ((codes " stands=" ++ file_name part) ++ codes "\n")
 
 -- The line of the mark.
 abbrev pub mark_line : FoundFiles → List ℕ
 mark_line f = named_line (named_by f.mark) f
 
+-- What a slot of a format has in front, by key.
+abbrev pub head_text : Format → (len : ℕ) → List ℕ
+head_text format len = (codes " bytes=" ++ decimal len) ++ (codes " format=" ++ decimal (format_number format))
+
+-- Its records and the gate at which they end.
+abbrev pub span_text : Span → List ℕ
+span_text span = (codes " records=" ++ decimal span.records) ++ ((codes " gate=" ++ gate_word span.gate) ++ (codes " at=" ++ decimal span.at))
+
 -- What a slot has, by key.
 abbrev pub slot_text : FoundSlot → List ℕ
-slot_text (Headless len) = codes " bytes=" ++ (decimal len ++ codes " format=none")
-slot_text (Journal format len span hidden) =
-    codes " bytes=" ++ (decimal len
-    ++ (codes " format=" ++ (decimal (format_number format)
-    ++ (codes " records=" ++ (decimal span.records
-    ++ (codes " gate=" ++ (gate_word span.gate
-    ++ (codes " at=" ++ (decimal span.at
-    ++ (codes " hidden=" ++ decimal hidden))))))))))
+slot_text (Headless len) = (codes " bytes=" ++ decimal len) ++ codes " format=none"
+slot_text (Journal format len span hidden) = head_text format len ++ (span_text span ++ (codes " hidden=" ++ decimal hidden))
 
 -- The way back of a slot that is wrong.
 abbrev pub slot_back : FoundSlot → List ℕ
@@ -149,15 +161,15 @@ slot_back (Journal format len span hidden) = gate_back span.gate span.at
 -- The line of a slot, by whether it stands.
 abbrev pub slot_line : Part → (stands : Bool) → FoundSlot → List ℕ
 slot_line part stands slot =
-    verdict_word (stands && is_wrong slot) ++ (file_name part ++ (slot_text slot ++ cond (stands && is_wrong slot) (slot_back slot) (codes "\n")))
+    (verdict_word (stands && is_wrong slot) ++ file_name part) ++ (slot_text slot ++ cond (stands && is_wrong slot) (slot_back slot) (codes "\n"))
 
 -- The line of the state.
 abbrev pub state_line : Verdict → List ℕ
 state_line Opens = codes "ok state\n"
 state_line (Damaged part at cause) =
-    codes "found state file=" ++ (file_name part ++ (codes " at=" ++ (decimal at ++ (codes " cause=" ++ (cause_word cause ++ cause_back cause at)))))
+    (codes "found state file=" ++ file_name part) ++ ((codes " at=" ++ decimal at) ++ ((codes " cause=" ++ cause_word cause) ++ cause_back cause at))
 
 -- The lines of what is found: of the mark, of each slot, and of the state.
 abbrev pub lines_of : FoundFiles → Verdict → List ℕ
 lines_of f v =
-    mark_line f ++ (slot_line Zero (is_named Zero (named_by f.mark)) f.first ++ (slot_line One (is_named One (named_by f.mark)) f.second ++ state_line v))
+    mark_line f ++ (slot_line Zero (is_first (named_by f.mark)) f.first ++ (slot_line One (is_second (named_by f.mark)) f.second ++ state_line v))

@@ -1,5 +1,5 @@
 ghost use Rattle.std.specs.Prelude.{◌≡◌, ◌&&◌};
-ghost use Rattle.folder_findings.specs.FindingLines.{does_open, has_records, is_lost, is_named, is_well, is_wrong, is_wrong_gate, named_by};
+ghost use Rattle.folder_findings.specs.FindingLines.{does_open, has_records, is_first, is_lost, is_second, is_well, is_wrong, is_wrong_gate, named_by};
 
 use crate::causes::Verdict;
 use crate::finding::{FoundFiles, FoundSlot};
@@ -23,27 +23,40 @@ fn is_lost(files: FoundFiles) -> bool
     files.mark == 0 && (has_records(files.first) || has_records(files.second))
 }
 
-/// The slot that a mark of so many bytes names: one of an odd length the first, one of an even length the second, and none an empty one.
+/// The slot that a mark of so many bytes names, if it has any.
 pub(crate) fn named_by(mark: u64) -> Option<Part>
     ensures { result ≡ named_by mark }
 {
     if mark == 0 {
         return None;
     }
-    if mark % 2 == 1 {
+    if (mark - 1) % 2 == 0 {
         return Some(Part::Zero);
     }
     Some(Part::One)
 }
 
-/// Whether a slot is named.
-pub(crate) fn is_named(slot: Part, named: Option<Part>) -> bool
-    ensures { result ≡ is_named slot named }
+/// Whether the first slot is named.
+pub(crate) fn is_first(named: Option<Part>) -> bool
+    ensures { result ≡ is_first named }
 {
-    match (slot, named) {
-        (Part::Zero, Some(Part::Zero)) => true,
-        (Part::One, Some(Part::One)) => true,
-        _ => false,
+    match named {
+        Some(Part::Zero) => true,
+        Some(Part::One) => false,
+        Some(Part::Mark) => false,
+        None => false,
+    }
+}
+
+/// Whether the second slot is named.
+pub(crate) fn is_second(named: Option<Part>) -> bool
+    ensures { result ≡ is_second named }
+{
+    match named {
+        Some(Part::Zero) => false,
+        Some(Part::One) => true,
+        Some(Part::Mark) => false,
+        None => false,
     }
 }
 
@@ -89,7 +102,7 @@ pub fn is_well(files: FoundFiles, verdict: Verdict) -> bool
     ensures { result ≡ is_well files verdict }
 {
     let named = named_by(files.mark);
-    let first = is_wrong_where_named(files.first, is_named(Part::Zero, named));
-    let second = is_wrong_where_named(files.second, is_named(Part::One, named));
+    let first = is_wrong_where_named(files.first, is_first(named));
+    let second = is_wrong_where_named(files.second, is_second(named));
     !is_lost(files) && (!first && (!second && does_open(verdict)))
 }

@@ -1,11 +1,11 @@
 ghost use Rattle.std.specs.Prelude.{◌≡◌, ◌&&◌, ◌++◌, cond, codes, decimal, IfOk, OnOk};
 ghost use Rattle.journal_core.specs.Slots.{format_number};
-ghost use Rattle.folder_findings.specs.FindingLines.{byte_back, cause_back, cause_word, copy_back, empty_line, file_name, gate_back, gate_word, is_wrong, lines_of, mark_back, mark_line, named_line, slot_back, slot_line, slot_text, state_line, verdict_word};
+ghost use Rattle.folder_findings.specs.FindingLines.{byte_back, cause_back, cause_word, copy_back, empty_line, file_name, gate_back, gate_word, head_text, is_wrong, lines_of, mark_back, mark_line, named_line, slot_back, slot_line, slot_text, span_text, state_line, verdict_word};
 
 use crate::causes::{Cause, Verdict};
 use crate::finding::{FoundFiles, FoundSlot};
-use crate::judging::{has_records, is_named, is_wrong, named_by};
-use crate::spans::Gate;
+use crate::judging::{has_records, is_first, is_second, is_wrong, named_by};
+use crate::spans::{Gate, Span};
 use ctrl_model::{Bytes, Format};
 use itoa::Buffer;
 use std::alloc::{AllocError, Global};
@@ -125,16 +125,17 @@ fn mark_back(first: bool, second: bool) -> &'static [u8]
 fn put_empty(out: &mut Vec<u8>, first: bool, second: bool) -> Result<(), AllocError>
     ensures { OnOk result (out.new.items ≡ out.old.items ++ empty_line first second) }
 {
-    if !first && !second {
-        return out.extend_from_slice(b"ok ziti.mark bytes=0\n");
+    match (first, second) {
+        (false, false) => out.extend_from_slice(b"ok ziti.mark bytes=0\n"),
+        (false, true) => put_word(out, b"found ziti.mark bytes=0", mark_back(false, true)),
+        (true, _) => put_word(out, b"found ziti.mark bytes=0", mark_back(true, second)),
     }
-    put_word(out, b"found ziti.mark bytes=0", mark_back(first, second))
 }
 
 // The line of a mark of so many bytes that names a slot.
 fn put_standing(out: &mut Vec<u8>, part: Part, mark: u64) -> Result<(), AllocError>
     ensures { OnOk result (out.new.items ≡ out.old.items
-        ++ (codes "ok ziti.mark bytes=" ++ (decimal mark ++ (codes " stands=" ++ (file_name part ++ codes "\n"))))) }
+        ++ ((codes "ok ziti.mark bytes=" ++ decimal mark) ++ ((codes " stands=" ++ file_name part) ++ codes "\n"))) }
 {
     put_number(out, b"ok ziti.mark bytes=", mark)?;
     put_word(out, b" stands=", file_name(part))?;
@@ -150,28 +151,58 @@ fn put_mark(out: &mut Vec<u8>, files: FoundFiles) -> Result<(), AllocError>
     }
 }
 
+// What a slot of a format has in front.
+fn put_head(out: &mut Vec<u8>, format: Format, len: u64) -> Result<(), AllocError>
+    ensures { OnOk result (out.new.items ≡ out.old.items ++ head_text format len) }
+{
+    put_number(out, b" bytes=", len)?;
+    put_word(out, b" format=", format_word(format))
+}
+
+// Its records and the gate at which they end.
+fn put_span(out: &mut Vec<u8>, span: Span) -> Result<(), AllocError>
+    ensures { OnOk result (out.new.items ≡ out.old.items ++ span_text span) }
+{
+    put_number(out, b" records=", span.records)?;
+    put_word(out, b" gate=", gate_word(span.gate))?;
+    put_number(out, b" at=", span.at)
+}
+
+// What a slot of a format has, by key.
+fn put_journal(
+    out: &mut Vec<u8>,
+    format: Format,
+    len: u64,
+    span: Span,
+    hidden: u64,
+) -> Result<(), AllocError>
+    ensures { OnOk result (out.new.items ≡ out.old.items ++ slot_text (FoundSlot.Journal format len span hidden)) }
+{
+    put_head(out, format, len)?;
+    put_span(out, span)?;
+    put_number(out, b" hidden=", hidden)
+}
+
+// What a slot has that begins with no header.
+fn put_headless(out: &mut Vec<u8>, len: u64) -> Result<(), AllocError>
+    ensures { OnOk result (out.new.items ≡ out.old.items ++ slot_text (FoundSlot.Headless len)) }
+{
+    put_number(out, b" bytes=", len)?;
+    out.extend_from_slice(b" format=none")
+}
+
 // What a slot has, by key.
 fn put_slot_text(out: &mut Vec<u8>, slot: FoundSlot) -> Result<(), AllocError>
     ensures { OnOk result (out.new.items ≡ out.old.items ++ slot_text slot) }
 {
     match slot {
-        FoundSlot::Headless { len } => {
-            put_number(out, b" bytes=", len)?;
-            out.extend_from_slice(b" format=none")
-        }
+        FoundSlot::Headless { len } => put_headless(out, len),
         FoundSlot::Journal {
             format,
             len,
             span,
             hidden,
-        } => {
-            put_number(out, b" bytes=", len)?;
-            put_word(out, b" format=", format_word(format))?;
-            put_number(out, b" records=", span.records)?;
-            put_word(out, b" gate=", gate_word(span.gate))?;
-            put_number(out, b" at=", span.at)?;
-            put_number(out, b" hidden=", hidden)
-        }
+        } => put_journal(out, format, len, span, hidden),
     }
 }
 
@@ -232,8 +263,8 @@ fn put_lines(out: &mut Vec<u8>, files: FoundFiles, verdict: Verdict) -> Result<(
 {
     let named = named_by(files.mark);
     put_mark(out, files)?;
-    put_slot(out, Part::Zero, is_named(Part::Zero, named), files.first)?;
-    put_slot(out, Part::One, is_named(Part::One, named), files.second)?;
+    put_slot(out, Part::Zero, is_first(named), files.first)?;
+    put_slot(out, Part::One, is_second(named), files.second)?;
     put_state(out, verdict)
 }
 
