@@ -1,2 +1,3 @@
 pub mod SpanLaws
 pub mod SlotSpans
+pub mod WaysBack

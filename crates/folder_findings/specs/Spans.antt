@@ -1,5 +1,5 @@
 -- Whole records of a slot, one behind another, and the gate at which they end (docs/FORMATS.md, "Slots").
-use Rattle.std.specs.Prelude.{ℕ, zero, suc, ◌+◌, ◌==◌, ◌&&◌, nat_le, cond, List, [], ◌∷◌, length, take, drop, None, Some}
+use Rattle.std.specs.Prelude.{ℕ, zero, suc, ◌+◌, ◌==◌, ◌&&◌, nat_le, cond, List, [], ◌∷◌, ◌++◌, length, take, drop, None, Some}
 use Rattle.std.specs.declared.option.Option.{Option}
 use Rattle.std.specs.Int.{w32, from_le_bytes}
 use Rattle.folder_findings.specs.declared.spans.Gate.{Gate}
@@ -47,3 +47,7 @@ closed_by _ records = 0
 -- where the records behind it end at no closed one, as old bytes do.
 abbrev pub hidden_by : Span → List ℕ → ℕ
 hidden_by span bytes = closed_by span.gate (closed_by (span_if_open span.at bytes).gate (span_if_open span.at bytes).records)
+
+-- The bytes with another byte at a place, or one more at their end, as the ways back write it.
+abbrev pub with_byte : (at byte : ℕ) → List ℕ → List ℕ
+with_byte at byte bytes = take at bytes ++ byte ∷ drop (at + 1) bytes

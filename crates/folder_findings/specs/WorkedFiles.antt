@@ -1,13 +1,10 @@
 -- Folders whose bytes were worked by hand.
-use Rattle.std.specs.Prelude.{ℕ, ◌+◌, List, [], ◌∷◌, ◌++◌, take, drop, replicate}
+use Rattle.std.specs.Prelude.{ℕ, List, [], ◌∷◌, ◌++◌}
 use Rattle.ziti_outside.specs.declared.desk.Part.TheVariants.{Zero, One, Mark}
 use Rattle.ziti_outside.specs.Images.{Image}
 use Rattle.ctrl_model.specs.declared.formats.Format.TheVariants as format
 use Rattle.journal_core.specs.WorkedSlots.{slot_of_ann}
-
--- The bytes with another byte at a place.
-abbrev pub with_byte : (at byte : ℕ) → List ℕ → List ℕ
-with_byte at byte bytes = take at bytes ++ byte ∷ drop (at + 1) bytes
+use Rattle.folder_findings.specs.Spans.{with_byte}
 
 -- The slot of the identity ann with a second record of two bytes behind its first.
 abbrev pub two_records : List ℕ

@@ -13,7 +13,7 @@ mod worked;
 pub use causes::{Cause, Verdict, cause_at};
 pub use finding::{FoundFiles, FoundSlot, find_files, find_slot};
 pub use judging::is_well;
-pub use laws::slots_are_found;
+pub use laws::{a_byte_leads_back, slots_are_found};
 pub use spans::{Gate, Span};
 pub use telling::lines;
 pub use worked::{worked_files, worked_findings, worked_lines, worked_slots};

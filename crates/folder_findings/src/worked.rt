@@ -8,8 +8,8 @@ ghost use Rattle.folder_findings.specs.FoundFiles.{found_files, found_slot};
 ghost use Rattle.folder_findings.specs.FindingLines.{is_well, lines_of, mark_line, slot_line, state_line};
 ghost use Rattle.folder_findings.specs.declared.causes.Cause.TheVariants.{NoHeader, NoGate, NoBatch, NoNext, NoState};
 ghost use Rattle.folder_findings.specs.declared.causes.Verdict.TheVariants.{Opens, Damaged};
-ghost use Rattle.folder_findings.specs.Spans.{ended};
-ghost use Rattle.folder_findings.specs.WorkedFiles.{files, two_records, with_byte};
+ghost use Rattle.folder_findings.specs.Spans.{ended, with_byte};
+ghost use Rattle.folder_findings.specs.WorkedFiles.{files, two_records};
 
 /// What is found in slots worked by hand: a gate that is closed by one flipped bit hides what stands behind it, the first one all.
 pub fn worked_slots()
