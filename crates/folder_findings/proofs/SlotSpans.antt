@@ -71,9 +71,9 @@ slot_is_found f bytes payloads s =
     let format : format_of bytes ≡ Some f = ap format_of s.split ∙ format_found f rest in
     let zero_on : 0 + length payloads ≡ length payloads = omega arith in
     let span : span_from 8 bytes ≡ ended Closed (slot_end payloads) (length payloads) =
-        ap (λ (l : List ℕ). span_past (drop 8 l) 0 8 0) s.split
-        ∙ ap (λ (l : List ℕ). span_past l 0 8 0) (drop_at (header f) rest 8 refl)
-        ∙ spans_of_records payloads 8 0 s.gate s.more s.short s.closed
-        ∙ ap (λ (k : ℕ). ended Closed (slot_end payloads) k) zero_on in
+    ap (λ (l : List ℕ). span_past (drop 8 l) 0 8 0) s.split
+    ∙ ap (λ (l : List ℕ). span_past l 0 8 0) (drop_at (header f) rest 8 refl)
+    ∙ spans_of_records payloads 8 0 s.gate s.more s.short s.closed
+    ∙ ap (λ (k : ℕ). ended Closed (slot_end payloads) k) zero_on in
     ap (λ (o : Option Format). found_as o bytes) format
     ∙ ap (λ (x : Span). Journal f (length bytes) x (hidden_by x bytes)) span

@@ -46,12 +46,7 @@ fn is_open<D: Desk>(desk: &mut D, part: Part, at: u64) -> Result<bool, Failed>
 }
 
 // How many bytes the payload has of the record that begins at a place of a part of so many bytes, if that is whole.
-fn record_len<D: Desk>(
-    desk: &mut D,
-    part: Part,
-    at: u64,
-    end: u64,
-) -> Result<Option<u64>, Failed>
+fn record_len<D: Desk>(desk: &mut D, part: Part, at: u64, end: u64) -> Result<Option<u64>, Failed>
     requires end { IsTrue D.tells → end ≡ length ((D.seen desk.old).reads part) }
     ensures len { IfOk result (λ len. IsTrue D.tells → len ≡ record_len (drop at ((D.seen desk.old).reads part))) }
     ensures within { IfOk result (λ len. IfSome len (λ n. at + 4 + n ≤ end)) }

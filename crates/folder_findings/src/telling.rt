@@ -225,12 +225,7 @@ fn put_slot_end(out: &mut Vec<u8>, wrong: bool, slot: FoundSlot) -> Result<(), A
     out.extend_from_slice(b"\n")
 }
 
-fn put_slot(
-    out: &mut Vec<u8>,
-    part: Part,
-    stands: bool,
-    slot: FoundSlot,
-) -> Result<(), AllocError>
+fn put_slot(out: &mut Vec<u8>, part: Part, stands: bool, slot: FoundSlot) -> Result<(), AllocError>
     ensures { OnOk result (out.new.items ≡ out.old.items ++ slot_line part stands slot) }
 {
     let wrong = stands && is_wrong(slot);
