@@ -4,7 +4,7 @@ use Rattle.std.specs.declared.option.Option.{Option}
 use Rattle.ziti_outside.specs.declared.desk.Part.{Part}
 use Rattle.ziti_outside.specs.declared.desk.Part.TheVariants.{Zero, One, Mark}
 use Rattle.ctrl_model.specs.declared.formats.Format.{Format}
-use Rattle.journal_core.specs.Slots.{format_number}
+use Rattle.ctrl_model.specs.declared.formats.Format.TheVariants as format
 use Rattle.slot_files.specs.FolderImage.{slot_of}
 use Rattle.folder_findings.specs.declared.spans.Gate.{Gate}
 use Rattle.folder_findings.specs.declared.spans.Gate.TheVariants.{Closed, Missing, Cut}
@@ -79,6 +79,11 @@ file_name Mark = codes "ziti.mark"
 abbrev pub verdict_word : Bool → List ℕ
 verdict_word wrong = cond wrong (codes "found ") (codes "ok ")
 
+-- The number of a format.
+abbrev pub format_word : Format → List ℕ
+format_word format.One = codes "1"
+format_word format.Two = codes "2"
+
 -- What stands at a gate.
 abbrev pub gate_word : Gate → List ℕ
 gate_word Closed = codes "closed"
@@ -131,10 +136,14 @@ empty_line false false = codes "ok ziti.mark bytes=0\n"
 empty_line false true = codes "found ziti.mark bytes=0" ++ mark_back false true
 empty_line true second = codes "found ziti.mark bytes=0" ++ mark_back true second
 
+-- The end of the line of a mark that names a slot.
+abbrev pub stands_text : Part → List ℕ
+stands_text part = (codes " stands=" ++ file_name part) ++ codes "\n"
+
 -- The line of a mark, by the slot that it names, if it names one.
 abbrev pub named_line : Option Part → FoundFiles → List ℕ
 named_line None f = empty_line (has_records f.first) (has_records f.second)
-named_line (Some part) f = (codes "ok ziti.mark bytes=" ++ decimal f.mark) ++ ((codes " stands=" ++ file_name part) ++ codes "\n")
+named_line (Some part) f = (codes "ok ziti.mark bytes=" ++ decimal f.mark) ++ stands_text part
 
 -- The line of the mark.
 abbrev pub mark_line : FoundFiles → List ℕ
@@ -142,7 +151,7 @@ mark_line f = named_line (named_by f.mark) f
 
 -- What a slot of a format has in front, by key.
 abbrev pub head_text : Format → (len : ℕ) → List ℕ
-head_text format len = (codes " bytes=" ++ decimal len) ++ (codes " format=" ++ decimal (format_number format))
+head_text format len = (codes " bytes=" ++ decimal len) ++ (codes " format=" ++ format_word format)
 
 -- Its records and the gate at which they end.
 abbrev pub span_text : Span → List ℕ
@@ -163,11 +172,18 @@ abbrev pub slot_line : Part → (stands : Bool) → FoundSlot → List ℕ
 slot_line part stands slot =
     (verdict_word (stands && is_wrong slot) ++ file_name part) ++ (slot_text slot ++ cond (stands && is_wrong slot) (slot_back slot) (codes "\n"))
 
+-- The front of the line of damage.
+abbrev pub place_text : Part → (at : ℕ) → List ℕ
+place_text part at = (codes "found state file=" ++ file_name part) ++ (codes " at=" ++ decimal at)
+
+-- Its end.
+abbrev pub cause_text : Cause → (at : ℕ) → List ℕ
+cause_text cause at = (codes " cause=" ++ cause_word cause) ++ cause_back cause at
+
 -- The line of the state.
 abbrev pub state_line : Verdict → List ℕ
 state_line Opens = codes "ok state\n"
-state_line (Damaged part at cause) =
-    (codes "found state file=" ++ file_name part) ++ ((codes " at=" ++ decimal at) ++ ((codes " cause=" ++ cause_word cause) ++ cause_back cause at))
+state_line (Damaged part at cause) = place_text part at ++ cause_text cause at
 
 -- The lines of what is found: of the mark, of each slot, and of the state.
 abbrev pub lines_of : FoundFiles → Verdict → List ℕ

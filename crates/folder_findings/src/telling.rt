@@ -1,6 +1,5 @@
 ghost use Rattle.std.specs.Prelude.{◌≡◌, ◌&&◌, ◌++◌, cond, codes, decimal, IfOk, OnOk};
-ghost use Rattle.journal_core.specs.Slots.{format_number};
-ghost use Rattle.folder_findings.specs.FindingLines.{byte_back, cause_back, cause_word, copy_back, empty_line, file_name, gate_back, gate_word, head_text, is_wrong, lines_of, mark_back, mark_line, named_line, slot_back, slot_line, slot_text, span_text, state_line, verdict_word};
+ghost use Rattle.folder_findings.specs.FindingLines.{byte_back, cause_back, cause_text, cause_word, copy_back, empty_line, file_name, format_word, gate_back, gate_word, head_text, is_wrong, lines_of, mark_back, mark_line, named_line, place_text, slot_back, slot_line, slot_text, span_text, stands_text, state_line, verdict_word};
 
 use crate::causes::{Cause, Verdict};
 use crate::finding::{FoundFiles, FoundSlot};
@@ -53,7 +52,7 @@ fn cause_word(cause: Cause) -> &'static [u8]
 }
 
 fn format_word(format: Format) -> &'static [u8]
-    ensures { result.now ≡ decimal (format_number format) }
+    ensures { result.now ≡ format_word format }
 {
     match format {
         Format::One => b"1",
@@ -132,14 +131,20 @@ fn put_empty(out: &mut Vec<u8>, first: bool, second: bool) -> Result<(), AllocEr
     }
 }
 
-// The line of a mark of so many bytes that names a slot.
-fn put_standing(out: &mut Vec<u8>, part: Part, mark: u64) -> Result<(), AllocError>
-    ensures { OnOk result (out.new.items ≡ out.old.items
-        ++ ((codes "ok ziti.mark bytes=" ++ decimal mark) ++ ((codes " stands=" ++ file_name part) ++ codes "\n"))) }
+// The end of the line of a mark that names a slot.
+fn put_stands(out: &mut Vec<u8>, part: Part) -> Result<(), AllocError>
+    ensures { OnOk result (out.new.items ≡ out.old.items ++ stands_text part) }
 {
-    put_number(out, b"ok ziti.mark bytes=", mark)?;
     put_word(out, b" stands=", file_name(part))?;
     out.extend_from_slice(b"\n")
+}
+
+// The line of a mark of so many bytes that names a slot.
+fn put_standing(out: &mut Vec<u8>, part: Part, mark: u64) -> Result<(), AllocError>
+    ensures { OnOk result (out.new.items ≡ out.old.items ++ ((codes "ok ziti.mark bytes=" ++ decimal mark) ++ stands_text part)) }
+{
+    put_number(out, b"ok ziti.mark bytes=", mark)?;
+    put_stands(out, part)
 }
 
 fn put_mark(out: &mut Vec<u8>, files: FoundFiles) -> Result<(), AllocError>
@@ -234,14 +239,28 @@ fn put_slot(out: &mut Vec<u8>, part: Part, stands: bool, slot: FoundSlot) -> Res
     put_slot_end(out, wrong, slot)
 }
 
+// The front of the line of damage.
+fn put_place(out: &mut Vec<u8>, part: Part, at: u64) -> Result<(), AllocError>
+    ensures { OnOk result (out.new.items ≡ out.old.items ++ place_text part at) }
+{
+    put_word(out, b"found state file=", file_name(part))?;
+    put_number(out, b" at=", at)
+}
+
+// The end of the line of damage.
+fn put_cause(out: &mut Vec<u8>, cause: Cause, at: u64) -> Result<(), AllocError>
+    ensures { OnOk result (out.new.items ≡ out.old.items ++ cause_text cause at) }
+{
+    put_word(out, b" cause=", cause_word(cause))?;
+    put_cause_back(out, cause, at)
+}
+
 // The line of damage.
 fn put_damage(out: &mut Vec<u8>, part: Part, at: u64, cause: Cause) -> Result<(), AllocError>
     ensures { OnOk result (out.new.items ≡ out.old.items ++ state_line (Verdict.Damaged part at cause)) }
 {
-    put_word(out, b"found state file=", file_name(part))?;
-    put_number(out, b" at=", at)?;
-    put_word(out, b" cause=", cause_word(cause))?;
-    put_cause_back(out, cause, at)
+    put_place(out, part, at)?;
+    put_cause(out, cause, at)
 }
 
 fn put_state(out: &mut Vec<u8>, verdict: Verdict) -> Result<(), AllocError>

@@ -104,7 +104,7 @@ pub judged_damage : (tells : Bool) (image later : Image) (part : Part) (at : ℕ
     → IfOk r (λ v. (cause : Cause) × (v ≡ DamagedAt part at cause) × (IsTrue tells → IsCauseAt at (later part) cause)) → IfOk r (λ v. IsTrue tells → IsVerdict image v)
 judged_damage tells image later part at r same none found =
     IfOk-weaker r _ _
-    (λ v f told. subst (λ (x : Verdict). IsVerdict image x) (sym f.1.0) (none told, subst (λ (i : Image). IsCauseAt at (i part) f.0) same (f.1.1 told)))
+    (λ v f told. subst (λ (x : Verdict). IsVerdict image x) (sym f.1) (none told, subst (λ (i : Image). IsCauseAt at (i part) f.0) same (f.2 told)))
     found
 
 -- no call was refused for a state
