@@ -200,4 +200,12 @@ impl Kept {
             planned,
         )
     }
+
+    /// The store of the folder, of a controller that is no more.
+    pub fn into_store(self) -> Store
+        ensures store { result ≡ self.stored }
+        ensures able { self.spent ≡ false → (result.opened ≡ true) × (result.spent ≡ false) }
+    {
+        self.store
+    }
 }

@@ -1,6 +1,6 @@
 mod FormLaws
 mod ValueLaws
-mod RowLaws
+pub mod RowLaws
 mod LoopLaws
 mod AddressReading
 mod ClaimReading

@@ -1,0 +1,4 @@
+mod HistoryStates
+mod DecidedBatches
+mod TakenFrames
+mod OrderedFrames

@@ -1,0 +1,5 @@
+mod SoundStates
+mod FoundStates
+pub mod JudgedStates
+pub mod SerialRows
+pub mod SizedRows
