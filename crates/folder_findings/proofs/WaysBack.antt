@@ -1,15 +1,14 @@
 -- A byte 0 where a slot breaks off ends it there.
-use Rattle.std.proofs.Common.{◌≡◌, ◌⊎◌, inl, inr, ℕ, zero, suc, ◌+◌, ◌<◌, List, ◌∷◌, ◌++◌, length, take, drop, refl, sym, ap, ◌∙◌, subst, arith, append_assoc, length-append}
+use Rattle.std.proofs.Common.{◌≡◌, inl, inr, ℕ, zero, suc, ◌+◌, ◌<◌, List, ◌∷◌, ◌++◌, length, take, drop, sym, ap, ◌∙◌, subst, arith, append_assoc, length-append}
 use Rattle.std.proofs.lemmas.List.{take_at}
 use Rattle.ziti_outside.specs.declared.desk.Part.{Part}
 use Rattle.ziti_outside.specs.declared.desk.Part.TheVariants.{Mark}
 use Rattle.ziti_outside.specs.Images.{Image}
 use Rattle.ctrl_model.specs.declared.formats.Format.{Format}
 use Rattle.journal_core.specs.Slots.{Slot, SlotFront, header, records_of, slot_end}
-use Rattle.slot_files.specs.FolderImage.{Stands, StandsBy, slot_of}
+use Rattle.slot_files.specs.FolderImage.{StandsBy, slot_of}
 use Rattle.slot_reading.specs.BatchRows.{ByteRows}
-use Rattle.slot_reading.specs.SlotReading.{BreaksOff}
-use Rattle.row_store.specs.OpenedRows.{HasNoHeader, IsBroken, IsDamagedAt, OpensTo}
+use Rattle.row_store.specs.OpenedRows.{IsBroken, IsDamagedAt, OpensTo}
 use Rattle.folder_findings.specs.Spans.{with_byte}
 
 -- The front of a slot is one with a closed gate behind it.

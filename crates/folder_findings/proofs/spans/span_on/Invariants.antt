@@ -1,4 +1,4 @@
-use Rattle.std.proofs.Common.{◌≡◌, ◌-◌, ◌≤◌, drop, length, IsTrue}
+use Rattle.std.proofs.Common.{◌≡◌, ◌-◌, ◌≤◌, drop, IsTrue}
 use Rattle.ziti_outside.specs.Untouched.{OnlyReads}
 use Rattle.folder_findings.specs.Spans.{span_past}
 use Rattle.folder_findings.proofs.spans.span_on.Given as goal
