@@ -1,5 +1,4 @@
-use Rattle.std.proofs.Common.{◌≡◌, IsTrue, inl, sym, ◌∙◌, refl, subst, ap}
-use Rattle.ziti_outside.specs.Images.{Image}
+use Rattle.std.proofs.Common.{inl, sym, ap, ◌∙◌}
 use Rattle.folder_findings.specs.FoundFiles.{found_files}
 use Rattle.zitilook.proofs.FindingLaws.{examines_from, unread_ends, unread_tells}
 use Rattle.zitilook.proofs.FolderLaws.{read_ends}
