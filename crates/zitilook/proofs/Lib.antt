@@ -3,3 +3,4 @@ pub mod SaidLaws
 pub mod OpenedLaws
 pub mod WordLaws
 pub mod RunLaws
+pub mod FindingLaws

@@ -80,10 +80,12 @@ pair_no_why word next is =
     first (inl w) = listing_no_why (kind_of next) (same_some (listing (kind_of next)) asked.Why w.1)
     first (inr w) = second (branch (bytes_eq word (codes "who")) (Some (asked_who next)) None (Some asked.Why) w.1)
 
--- no one word asks for anything but a dump and the two pages
-alone_no : (asks : Asked) (word : List ℕ) → (asked.Tell Help ≡ asks → ⊥) → (asked.Tell Version ≡ asks → ⊥) → asked_of (word ∷ []) ≡ Some asks → ⊥
-alone_no asks word no_help no_version is =
-    second (branch (bytes_eq word (codes "help")) (Some (asked.Tell Help)) (if bytes_eq word (codes "version") then Some (asked.Tell Version) else None) (Some asks) is)
+-- no one word asks for anything but what is wrong and the two pages
+alone_no : (asks : Asked) (word : List ℕ) → (asked.Doctor ≡ asks → ⊥) → (asked.Tell Help ≡ asks → ⊥) → (asked.Tell Version ≡ asks → ⊥)
+    → asked_of (word ∷ []) ≡ Some asks → ⊥
+alone_no asks word no_doctor no_help no_version is =
+    first (branch (bytes_eq word (codes "doctor")) (Some asked.Doctor)
+    (if bytes_eq word (codes "help") then Some (asked.Tell Help) else if bytes_eq word (codes "version") then Some (asked.Tell Version) else None) (Some asks) is)
   where
     third : ((bytes_eq word (codes "version") ≡ true) × (Some (asked.Tell Version) ≡ Some asks)) ⊎ ((bytes_eq word (codes "version") ≡ false) × (None ≡ Some asks)) → ⊥
     third (inl w) = no_version (same_some (asked.Tell Version) asks w.1)
@@ -94,9 +96,15 @@ alone_no asks word no_help no_version is =
     second (inl w) = no_help (same_some (asked.Tell Help) asks w.1)
     second (inr w) = third (branch (bytes_eq word (codes "version")) (Some (asked.Tell Version)) None (Some asks) w.1)
 
+    first : ((bytes_eq word (codes "doctor") ≡ true) × (Some asked.Doctor ≡ Some asks))
+        ⊎ ((bytes_eq word (codes "doctor") ≡ false)
+        × ((if bytes_eq word (codes "help") then Some (asked.Tell Help) else if bytes_eq word (codes "version") then Some (asked.Tell Version) else None) ≡ Some asks)) → ⊥
+    first (inl w) = no_doctor (same_some asked.Doctor asks w.1)
+    first (inr w) = second (branch (bytes_eq word (codes "help")) (Some (asked.Tell Help)) (if bytes_eq word (codes "version") then Some (asked.Tell Version) else None) (Some asks) w.1)
+
 pub why_names : (words : List (List ℕ)) → asked_of words ≡ Some asked.Why → (is_name (word_at Second words) ≡ true) × (is_name (word_at Third words) ≡ true)
 why_names [] is = absurd (none_some None asked.Why refl is)
-why_names (word ∷ []) is = absurd (alone_no asked.Why word (λ (e : asked.Tell Help ≡ asked.Why). absurd cc) (λ (e : asked.Tell Version ≡ asked.Why). absurd cc) is)
+why_names (word ∷ []) is = absurd (alone_no asked.Why word (λ (e : asked.Doctor ≡ asked.Why). absurd cc) (λ (e : asked.Tell Help ≡ asked.Why). absurd cc) (λ (e : asked.Tell Version ≡ asked.Why). absurd cc) is)
 why_names (word ∷ next ∷ []) is = absurd (pair_no_why word next is)
 why_names (word ∷ next ∷ third ∷ []) is =
     first (branch (bytes_eq word (codes "show")) (Some (showing (kind_of next))) (if bytes_eq word (codes "why") then Some (asked_why next third) else None) (Some asked.Why) is)
@@ -151,7 +159,7 @@ pair_who word next is =
 
 pub who_name : (words : List (List ℕ)) → asked_of words ≡ Some asked.Who → is_name (word_at Second words) ≡ true
 who_name [] is = absurd (none_some None asked.Who refl is)
-who_name (word ∷ []) is = absurd (alone_no asked.Who word (λ (e : asked.Tell Help ≡ asked.Who). absurd cc) (λ (e : asked.Tell Version ≡ asked.Who). absurd cc) is)
+who_name (word ∷ []) is = absurd (alone_no asked.Who word (λ (e : asked.Doctor ≡ asked.Who). absurd cc) (λ (e : asked.Tell Help ≡ asked.Who). absurd cc) (λ (e : asked.Tell Version ≡ asked.Who). absurd cc) is)
 who_name (word ∷ next ∷ []) is = pair_who word next is
 who_name (word ∷ next ∷ third ∷ []) is =
     first (branch (bytes_eq word (codes "show")) (Some (showing (kind_of next))) (if bytes_eq word (codes "why") then Some (asked_why next third) else None) (Some asked.Who) is)

@@ -14,6 +14,7 @@ use Rattle.zitilook.specs.declared.words.Asked.{Asked}
 use Rattle.zitilook.specs.declared.words.Asked.TheVariants as asked
 use Rattle.zitilook.specs.declared.status.Status.{Status}
 use Rattle.zitilook.specs.declared.status.Status.TheVariants.{Usage, NoMemory}
+use Rattle.zitilook.specs.Findings.{Examines}
 use Rattle.zitilook.specs.Looks.{SaysText, FindsNone, Looks, Refuses, found, HasCauses, IsLeftAlone}
 use Rattle.zitilook.specs.Notes.{absent_note, misnamed_note, notes_of, unknown_note}
 use Rattle.zitilook.specs.Pages.{page_text}
@@ -31,6 +32,7 @@ told_of words (asked.List l) = Some (λ s. Ok (lines_of l s))
 told_of words (asked.Show l) = Some (λ s. found (absent_note (word_at Third words)) (lines_asked l (word_at Third words) s))
 told_of words asked.Why = Some (λ s. Ok (reason_lines (why s (word_at Second words) (word_at Third words))))
 told_of words asked.Who = Some (λ s. Ok (reason_lines (who s (word_at Second words))))
+told_of words asked.Doctor = None
 told_of words asked.Unknown = None
 told_of words (asked.Misnamed place) = None
 told_of words (asked.Tell page) = None
@@ -49,6 +51,7 @@ refusal_of words _ = None
 -- `why IDENTITY SERVICE` those of the findings on the two, under `who SERVICE` those on all that may dial it. Where none has the name, it
 -- is noted. The folder is opened by reading alone. Where it opens to no state, nothing is said, and why is noted. Where KIND is none, or a word is no name, no
 -- folder is opened, and the word is noted.
+-- Under `doctor` what is found in its files is said, and whether it opens to a state, also where it opens to none.
 -- A page about the program is said without memory.
 -- A fault comes exactly where its count rose in this run. Whatever is asked for, the folder is left alone.
 pub record Runs {D : Type 0} (tells : Bool) (seen : D → Seen) (stopped : D → Stopped) (words : List (List ℕ)) (what : Option Asked) (desk desk_now : D) (status : Status) : Type 0 where
@@ -58,6 +61,7 @@ pub record Runs {D : Type 0} (tells : Bool) (seen : D → Seen) (stopped : D →
       → FindsNone tells (seen desk) (seen desk_now) status
       ⊎ Looks told tells (seen desk) (seen desk_now) status
   pub refuses : (asks : Asked) → what ≡ Some asks → (note : List ℕ) → refusal_of words asks ≡ Some note → Refuses note (seen desk) (seen desk_now) status
+  pub examines : what ≡ Some asked.Doctor → Examines tells (seen desk) (seen desk_now) status
   pub pages : (page : Page) → what ≡ Some (asked.Tell page) → SaysText (page_text page) (seen desk) (seen desk_now) status
   pub pages_want_no_memory : (page : Page) → what ≡ Some (asked.Tell page) → status ≡ NoMemory → ⊥
   pub causes : HasCauses (seen desk) (seen desk_now) status

@@ -4,6 +4,7 @@ pub mod Notes
 pub mod Pages
 pub mod OpenedRows
 pub mod Looks
+pub mod Findings
 pub mod Headline
 pub mod LookedTexts
 pub mod Steps

@@ -3,7 +3,7 @@ use Rattle.std.specs.Prelude.{ℕ, List, [], ◌++◌, codes, decimal}
 use Rattle.ziti_outside.specs.declared.desk.Part.{Part}
 use Rattle.run_notes.specs.Notes.{file_number}
 use Rattle.zitilook.specs.declared.status.Status.{Status}
-use Rattle.zitilook.specs.declared.status.Status.TheVariants.{Done, Usage, Unknown, WriteFault, DiskFault, Damaged, NoMemory}
+use Rattle.zitilook.specs.declared.status.Status.TheVariants.{Done, Usage, Found, Unknown, WriteFault, DiskFault, Damaged, NoMemory}
 
 -- A note: what it tells behind the program's name, and a newline.
 abbrev pub note_of : List ℕ → List ℕ
@@ -12,7 +12,8 @@ note_of told = codes "zitilook: " ++ (told ++ codes "\n")
 -- The note of a status that tells nothing else.
 abbrev pub notes_of : Status → List ℕ
 notes_of Done = []
-notes_of Usage = note_of (codes "usage: zitilook list KIND | show KIND NAME | why IDENTITY SERVICE | who SERVICE | help | version")
+notes_of Usage = note_of (codes "usage: zitilook list KIND | show KIND NAME | why IDENTITY SERVICE | who SERVICE | doctor | help | version")
+notes_of Found = note_of (codes "something is wrong with the folder")
 notes_of Unknown = []
 notes_of WriteFault = note_of (codes "write fault")
 notes_of DiskFault = note_of (codes "disk fault")

@@ -1,12 +1,13 @@
 -- The numbers of the statuses, which are those that zitictl has for the same causes (docs/FORMATS.md, "Statuses").
 use Rattle.std.specs.Prelude.{ℕ}
 use Rattle.zitilook.specs.declared.status.Status.{Status}
-use Rattle.zitilook.specs.declared.status.Status.TheVariants.{Done, Usage, Unknown, WriteFault, DiskFault, Damaged, NoMemory}
+use Rattle.zitilook.specs.declared.status.Status.TheVariants.{Done, Usage, Found, Unknown, WriteFault, DiskFault, Damaged, NoMemory}
 
 -- The number with which the program ends at a status.
 abbrev pub number_of : Status → ℕ
 number_of Done = 0
 number_of Usage = 1
+number_of Found = 2
 number_of Unknown = 2
 number_of WriteFault = 5
 number_of DiskFault = 6

@@ -1,7 +1,8 @@
-//! The program zitilook: the records of a controller's folder as lines, and why an identity can or cannot reach a service, by reading the
-//! folder alone.
+//! The program zitilook: the records of a controller's folder as lines, why an identity can or cannot reach a service, and what is wrong with
+//! the folder's files, by reading the folder alone.
 #![tactic(auto)]
 
+mod examining;
 mod notes;
 mod opening;
 mod pages;

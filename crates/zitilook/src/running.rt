@@ -10,6 +10,7 @@ ghost use Rattle.zitilook.specs.OpenedRows.{MayClose};
 ghost use Rattle.zitilook.specs.Steps.{EndsSo, TellsClosed};
 ghost use Rattle.zitilook.specs.Words.{asked_of};
 
+use crate::examining::run_doctor;
 use crate::notes::{absent_note, damaged_note, misnamed_note, status_note, unknown_note};
 use crate::pages::page_text;
 use crate::status::Status;
@@ -22,7 +23,7 @@ use std::alloc::{AllocError, Global};
 use ziti_outside::{Desk, Failed, Part};
 
 // Notes a status that tells nothing else, and answers it.
-fn end_with<D: Desk>(status: Status, desk: &mut D) -> Status
+pub(crate) fn end_with<D: Desk>(status: Status, desk: &mut D) -> Status
     ensures status { result ≡ status }
     ensures noted { NotesLines (notes_of status) (D.seen desk.old) (D.seen desk.new) }
     ensures others { OnlyNotes D.seen D.stopped desk.old desk.new }
@@ -68,7 +69,7 @@ fn tell_damage<D: Desk>(part: Part, at: u64, desk: &mut D) -> Status
 }
 
 // Notes why the folder was not opened, and answers that status. It wants no memory.
-fn tell_closed<D: Desk>(fault: KeepFault, desk: &mut D) -> Status
+pub(crate) fn tell_closed<D: Desk>(fault: KeepFault, desk: &mut D) -> Status
     requires { MayClose fault }
     ensures told { TellsClosed fault result (D.seen desk.old) (D.seen desk.new) }
     ensures others { OnlyNotes D.seen D.stopped desk.old desk.new }
@@ -185,6 +186,7 @@ fn run_asked<D: Desk>(alloc: Global, asked: Asked, words: &[String], desk: &mut 
             desk,
         ),
         Asked::Who => run_look(alloc, &Look::Who { service: second }, desk),
+        Asked::Doctor => run_doctor(alloc, desk),
         Asked::Unknown => tell_refused(unknown_note(alloc, second), desk),
         Asked::Misnamed(place) => {
             tell_refused(misnamed_note(alloc, word_at(place, words)), desk)

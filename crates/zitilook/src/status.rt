@@ -8,6 +8,8 @@ pub enum Status {
     Done,
     /// The words are no line of the table of words.
     Usage,
+    /// All that was asked for was said, and something is wrong with the folder.
+    Found,
     /// The words name a kind or a record that there is not, or are no names.
     Unknown,
     /// The desk failed to take what was said.
@@ -28,6 +30,7 @@ impl Status {
         match self {
             Status::Done => 0,
             Status::Usage => 1,
+            Status::Found => 2,
             Status::Unknown => 2,
             Status::WriteFault => 5,
             Status::DiskFault => 6,

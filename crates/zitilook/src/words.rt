@@ -16,6 +16,8 @@ pub enum Asked {
     Why,
     /// Who is granted Dial on a service, which the second word names.
     Who,
+    /// What is wrong with the folder, and the way back.
+    Doctor,
     /// The lines of a kind that there is not. The second word is the one that names no kind.
     Unknown,
     /// The findings on a record that nothing can name: the word at this place is no name.
@@ -107,11 +109,12 @@ fn asked_why(identity: &str, service: &str) -> Asked
     }
 }
 
-// What one word asks for: `help` or `version`.
+// What one word asks for: `doctor`, `help` or `version`.
 fn asked_alone(word: &str) -> Option<Asked>
     ensures { result ≡ asked_alone word.now }
 {
     match word.as_bytes() {
+        name if name == b"doctor".as_slice() => Some(Asked::Doctor),
         name if name == b"help".as_slice() => Some(Asked::Tell(Page::Help)),
         name if name == b"version".as_slice() => Some(Asked::Tell(Page::Version)),
         _ => None,
@@ -141,7 +144,7 @@ fn asked_triple(word: &str, next: &str, third: &str) -> Option<Asked>
 }
 
 /// What the words ask for, if they are a line of the table of words: `list KIND`, `show KIND NAME`, `why IDENTITY SERVICE`,
-/// `who SERVICE`, `help` or `version`.
+/// `who SERVICE`, `doctor`, `help` or `version`.
 pub fn asked_of(words: &[String]) -> Option<Asked>
     ensures { result ≡ asked_of (map string_bytes words.now) }
 {

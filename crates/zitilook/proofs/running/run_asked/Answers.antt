@@ -8,7 +8,7 @@ use Rattle.zitilook.specs.Looks.{FindsNone, Looks, Refuses, found}
 use Rattle.record_lines.specs.RecordLines.{lines_asked}
 use Rattle.zitilook.specs.Notes.{absent_note, misnamed_note, unknown_note}
 use Rattle.zitilook.specs.Words.{word_at}
-use Rattle.zitilook.proofs.RunLaws.{look_runs, refused_runs}
+use Rattle.zitilook.proofs.RunLaws.{doctor_runs, look_runs, refused_runs}
 use Rattle.zitilook.proofs.running.run_asked.Goals as goal
 
 pub returns-in-Show : goal.returns-in-Show
@@ -49,4 +49,14 @@ returns-in-Misnamed g c =
     record {
       runs = subst (λ (a : Asked). Runs d.tells d.seen d.stopped words (Some a) c.args.desk.now c.tell_refused-in-Misnamed.new.desk c.tell_refused-in-Misnamed.result) (sym c.in-Misnamed.is)
           (refused_runs d.tells d.seen d.stopped words (asked.Misnamed place) (misnamed_note (word_at place words)) c.args.desk.now c.tell_refused-in-Misnamed.new.desk c.tell_refused-in-Misnamed.result refl refl told e.ends);
+    }
+
+pub returns-in-Doctor : goal.returns-in-Doctor
+returns-in-Doctor g c =
+    let d = g.D.Desk in
+    let words = map string_bytes c.args.words.now in
+    let e = c.run_doctor.ensures in
+    record {
+      runs = subst (λ (a : Asked). Runs d.tells d.seen d.stopped words (Some a) c.args.desk.now c.run_doctor.new.desk c.run_doctor.result) (sym c.in-Doctor.is)
+          (doctor_runs d.tells d.seen d.stopped words c.args.desk.now c.run_doctor.new.desk c.run_doctor.result e.examines e.ends);
     }

@@ -1,0 +1,5 @@
+pub mod Spans
+pub mod FoundFiles
+pub mod Causes
+pub mod FindingLines
+pub mod WorkedFiles
