@@ -91,7 +91,7 @@ def random_leader(program, rand):
 def large_leader(program, rand):
     """A leader whose batches come in pieces, before and behind a compaction."""
     leader = Leader()
-    files = damage.sized_folder(2, folders.PIECE * rand.choice([1, 2]) + rand.choice([-1, 0, 1, 5_000]))
+    files = damage.sized_folder(2, folders.PIECE * rand.choice([1, 2]) + rand.choice([-1, 0, 1]))
     for words in ("", "compact"):
         files = must_run(program, words, files)[1] if words else files
         leader.ship(program, files, 0)
@@ -405,11 +405,11 @@ def fronts(listed):
 
 def main_kill(program, moments=500, seed=1):
     program, rand = os.path.abspath(program), random.Random(int(seed))
-    listed = long_stream(program, 1000)
+    listed = long_stream(program, 400)
     data, behind = b"".join(frame.bytes() for frame in listed), fronts(listed)
     begun = time.monotonic()
     assert must_run(program, "follow", {}, data)[0].count(b'"Took"') == len(listed)
-    whole, ahead, middle, wholes = time.monotonic() - begun, collections.Counter(), 0, 0
+    whole, ahead, middle = time.monotonic() - begun, collections.Counter(), 0
     for number in range(int(moments)):
         with tempfile.TemporaryDirectory() as folder:
             with open(folder + "/in", "wb") as file:
@@ -425,6 +425,8 @@ def main_kill(program, moments=500, seed=1):
             names = [body.split(b'taken":"')[1][:-2] for body in runs_of(said)]
             assert status == 0 and len(names) == len(listed) and set(names[kept:]) <= {b"Took"} and set(names[:kept]) <= {b"Old", b"Repeat"}, (number, noted)
             assert records_of(files_of(folder))[0] == behind[-1]
+        if number % 50 == 49:
+            print(f"{number + 1} stops: {middle} in the middle, frames kept without a reply: {dict(sorted(ahead.items()))}", flush=True)
     print(f"{moments} stops of a run of {len(listed)} frames, {whole:.2f} s whole: {middle} in its middle; frames kept without a reply: {dict(sorted(ahead.items()))}; none lost")
 
 
