@@ -4,13 +4,15 @@
 usage: follow.py ZITICTL [COUNT [SEED]]
        follow.py kill ZITICTL [MOMENTS [SEED]]
        follow.py room ZITICTL [MIB]
+       follow.py journal ZITICTL
 
 The first form makes leaders by `replay` and `compact`, ships them by `ship 0` and `ship N`, and feeds streams of these frames to copies until COUNT frames were
 taken, 20,000 if none is given. Each reply, the status, the notes and each file behind the run have to be those of model_follow.py, which is written from
 docs/RULES.md and docs/FORMATS.md alone. Of a stream of one leader without changed bytes, the rows have to be none or some that the leader had, never earlier ones
 than before, and no reply is BadShip, BadBatch or Differs. A difference leaves the folder and the input in a new folder, which is named.
 
-The second form ends a run of `follow` by `kill -9` at random moments. The third one takes long streams within 512 MiB of memory.
+The second form ends a run of `follow` by `kill -9` at random moments. The third one takes long streams within 512 MiB of memory. The
+last one compares copies whose slot of 2^30 bytes leaves just room for a batch, or just none.
 """
 
 import collections
@@ -209,7 +211,7 @@ def split(rand, frame):
 def drawn(rand, leader, size):
     """Frames of a leader: in their order with losses and repeats, in another order nearby, or any at all."""
     whole = [frame for part in leader.frames for frame in part]
-    start = rand.choice([0, 0, rand.randrange(len(whole))])
+    start = rand.choice([0, 0, 0, 0, rand.randrange(len(whole))])
     lost, found = rand.choice([0, 0, 0.02, 0.2]), []
     while len(found) < size:
         for frame in whole[start:]:
@@ -229,7 +231,7 @@ def drawn(rand, leader, size):
 
 def stream(rand, leader, other, size, tally):
     """The bytes of a stream, and whether it is of one leader and no byte is changed."""
-    changing, foreign = rand.choice([(0, 0), (0, 0), (0.05, 0), (0.3, 0), (0.02, 0.02), (0, 0.1), (0.9, 0)])
+    changing, foreign = rand.choice([(0, 0)] * 6 + [(0.05, 0), (0.3, 0), (0.3, 0), (0.02, 0.02), (0, 0.1), (0.9, 0)])
     said, is_pure = [], True
     for frame in drawn(rand, leader, size):
         if rand.random() < foreign:
@@ -292,7 +294,7 @@ def follow_leader(program, word, rand, leader, other, tally):
     files = {} if start < 0.7 else rand.choice(leader.folders) if start < 0.9 else damage.history(rand, 10, rand.choice([1, 2]))[1]
     taken, is_pure = 0, start < 0.9
     for number in range(rand.choice([1, 2, 4])):
-        size = rand.choice([5, 60, 400]) if leader.rows else rand.choice([3, 8, 12])
+        size = rand.choice([5, 60, 150]) if leader.rows else rand.choice([3, 8, 12])
         data, is_clean = stream(rand, leader, other, size, tally)
         before = folders.Look(files).state.serial
         run = compare(program, f"{word}, run {number}", files, data)
@@ -337,7 +339,7 @@ def main_compare(program, most=20_000, seed=1):
         rand = random.Random(f"follow {seed} {number}")
         leader = large_leader(program, rand) if number % 8 == 3 else random_leader(program, rand)
         if any(leader.frames) and any(other.frames):
-            for copy in range(16 if leader.rows else 3):
+            for copy in range(40 if leader.rows else 10):
                 taken += follow_leader(program, f"seed {seed}, leader {number}, copy {copy}", rand, leader, other, tally)
                 tally["copies"] += 1
         if leader.rows:
@@ -503,8 +505,18 @@ def main_room(program, mebibytes=64):
             print(f"{name}: {length:.1f} MiB: status {status}, {seconds:.1f} s, {peak:.0f} MiB resident, {answers} {noted}", flush=True)
 
 
+def main_journal(program):
+    for room in (26, 25):
+        files = damage.full_journal(2, room)
+        records, present = records_of(files)
+        own = folders.serial_in(present[following.SERIAL_KEY])
+        whole = folders.batch_between({}, {b"\2": rows.number(30), following.SERIAL_KEY: struct.pack("<Q", own + 2)})
+        run = compare(os.path.abspath(program), f"a slot with room for {room} bytes", files, nexts(own + 1, 0) + nexts(own + 2, 1) + whole_of(own + 2, whole) + nexts(own + 3, 1))
+        print(f"a slot of {len(files['ziti.0'])} bytes and {len(records)} records with room for {room}: {[name for name, _ in run.answers]}", flush=True)
+
+
 def main():
-    forms = {"kill": main_kill, "room": main_room}
+    forms = {"kill": main_kill, "room": main_room, "journal": main_journal}
     words = sys.argv[1:]
     forms.get(words[0], lambda *rest: main_compare(*words))(*words[1:])
 
