@@ -16,7 +16,7 @@ SLOTS, MARK = ("ziti.0", "ziti.1"), "ziti.mark"
 FILES = SLOTS + (MARK,)
 HEADERS = {form: b"ZCTL" + bytes([form, 0, 0, 0]) for form in (1, 2)}
 SLOT_BOUND, MARK_BOUND = 2**30, 2**20
-USAGE = "zitictl: usage: zitictl dry | replay [--sessions] | audit | compact | load N | advise I S | ship N\n"
+USAGE = "zitictl: usage: zitictl dry | replay [--sessions] | audit | compact | load N | advise I S | ship N | follow\n"
 
 
 class Damaged(Exception):
