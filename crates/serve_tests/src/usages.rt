@@ -30,7 +30,7 @@ const LINE_OF_7: &str =
     "{\"circuits\":1,\"grants\":4558,\"identities\":200,\"links\":27,\"policies\":30,\"routers\":12,\"services\":40,\"terminators\":40}\n";
 
 /// Lines of words that are none of the table.
-const NO_LINES: [&[&str]; 20] = [
+const NO_LINES: [&[&str]; 21] = [
     &[],
     &[""],
     &["Dry"],
@@ -51,10 +51,11 @@ const NO_LINES: [&[&str]; 20] = [
     &["advise", "", "web"],
     &["advise", "@ann", "web"],
     &["advise", "ann", "#web"],
+    &["follow", "0"],
 ];
 
 const USAGE: &[u8] =
-    b"zitictl: usage: zitictl dry | replay [--sessions] | audit | compact | load N | advise I S | ship N\n";
+    b"zitictl: usage: zitictl dry | replay [--sessions] | audit | compact | load N | advise I S | ship N | follow\n";
 
 // Runs words at an input that they do not read, which ends so and leaves the folder empty.
 fn ends(
