@@ -3,7 +3,7 @@
 A leader keeps a network, is compacted, and then takes changes of the least router cost, each of which is shipped as a Next of 26 bytes. Measured are runs of
 `follow` on a copy of it: without input, with the Nexts, and with them once more, where each is Repeat; and runs of `replay` on the leader, without input and with
 the changes. What is said of one Next, one Repeat or one change is the difference of two runs, divided by how many there are. The seconds are processor seconds,
-the least of three runs; the memory is the most that was resident."""
+the least of some runs; the memory is the most that was resident."""
 
 import os
 import shutil
@@ -14,32 +14,26 @@ import tempfile
 sys.path.insert(0, os.path.join(os.path.dirname(os.path.abspath(__file__)), "..", "trials"))
 
 import frames
+import migration
 import networks
+import old_folders as old
 
 SET_LEAST_ROUTER_COST = 1210
-RUNS = 3
 
 
-def realistic():
-    """The 660 commands of examples/realistic.lines."""
-    return b"".join(frames.example("realistic")[0])
+def example(name):
+    """Makes a leader of the commands of an example's lines."""
+    return lambda program, folder: run(program, "replay", folder, b"".join(frames.example(name)[0]))
 
 
-def circuits():
-    """256 routers, 4,096 links and 16,384 circuits: three full tables."""
-    return networks.frames(networks.mesh_circuits(16_384))
+def limits(program, folder):
+    """Makes the leader of migration.py: 2,048 identities, 512 services, 16,384 circuits and 1,058,816 counts."""
+    old.write(folder, [old.put_rows(migration.lasts() + migration.records() + migration.counts())])
+    run(program, "replay", folder)
 
 
-def grants():
-    """2,048 identities, 512 services and 256 routers, and three policies of all on all: 1,703,936 pairs."""
-    made = networks.all_to_all() + [networks.named(networks.CREATE_ROUTER, f"r{i}") for i in range(256)]
-    everything = {"semantic": "AnyOf", "router_roles": ["#all"]}
-    made.append(networks.named(networks.CREATE_EDGE_ROUTER_POLICY, "e", identity_roles=["#all"], **everything))
-    made.append(networks.named(networks.CREATE_SERVICE_EDGE_ROUTER_POLICY, "s", service_roles=["#all"], **everything))
-    return networks.frames(made)
-
-
-NETWORKS = {"realistic": (realistic, 200), "circuits": (circuits, 10), "grants": (grants, 3)}
+# How a leader is made, how many Nexts are measured, and in how many runs.
+NETWORKS = {"small": (example("network"), 200, 3), "realistic": (example("realistic"), 200, 3), "limits": (limits, 3, 1)}
 
 
 def run(program, words, folder, data=b""):
@@ -55,10 +49,10 @@ def run(program, words, folder, data=b""):
         return said.read(), used.ru_utime + used.ru_stime, peak.most
 
 
-def measured(program, words, folder, data, name, many):
+def measured(program, runs, words, folder, data, name, many):
     """The least processor seconds and the most MiB of some runs, each on a copy of a folder; the name of an answer has to come so many times."""
     found = []
-    for _ in range(RUNS):
+    for _ in range(runs):
         with tempfile.TemporaryDirectory() as top:
             shutil.copytree(folder, top + "/it")
             said, *used = run(program, words, top + "/it", data)
@@ -68,11 +62,11 @@ def measured(program, words, folder, data, name, many):
 
 
 def measure(program, name):
-    made, many = NETWORKS[name]
+    made, many, runs = NETWORKS[name]
     with tempfile.TemporaryDirectory() as top:
         leader, copy, ahead = (os.path.join(top, it) for it in ("leader", "copy", "ahead"))
         os.mkdir(leader), os.mkdir(copy)
-        run(program, "replay", leader, made())
+        made(program, leader)
         run(program, "compact", leader)
         whole = run(program, "ship 0", leader)[0]
         _, took, memory = run(program, "follow", copy, whole)
@@ -87,7 +81,7 @@ def measure(program, name):
         shutil.copytree(copy, ahead)
         run(program, "follow", ahead, nexts)
         rows += [("follow of nothing", "follow", copy, b"", b"{", 0), ("follow", "follow", copy, nexts, b'"Took"', many), ("follow once more", "follow", ahead, nexts, b'"Repeat"', many)]
-        least = {row: measured(program, *rest) for row, *rest in rows}
+        least = {row: measured(program, runs, *rest) for row, *rest in rows}
         for row, (seconds, memory) in least.items():
             base = "replay of nothing" if row == "replay" else "follow of nothing"
             each = "" if row.endswith("nothing") else f", each of {many}: {(seconds - least[base][0]) / many * 1000:.3f} ms"

@@ -4,7 +4,7 @@
 usage: follow.py ZITICTL [COUNT [SEED]]
        follow.py compacted ZITICTL [LEADERS [SEED]]
        follow.py kill ZITICTL [MOMENTS [SEED]]
-       follow.py room ZITICTL [MIB [NAME]]
+       follow.py room ZITICTL [MIB [NAME [MEMORY]]]
        follow.py journal ZITICTL
 
 The first form makes leaders by `replay` and `compact`, ships them by `ship 0` and `ship N`, and feeds streams of these frames to copies until COUNT frames were
@@ -13,7 +13,8 @@ docs/RULES.md and docs/FORMATS.md alone. Of a stream of one leader without chang
 than before, and no reply is BadShip, BadBatch or Differs. A difference leaves the folder and the input in a new folder, which is named.
 
 The second form compacts leaders between two ships: behind it a copy takes all that is shipped from the serial behind its own on, and is as the leader then. The
-third one ends a run of `follow` by `kill -9` at random moments. The fourth one takes long streams by a pipe within 512 MiB of memory. The last one compares copies whose slot of 2^30 bytes leaves just room for a batch, or just none.
+third one ends a run of `follow` by `kill -9` at random moments. The fourth one takes long streams by a pipe within 512 MiB of memory, or as many as are
+given. The last one compares copies whose slot of 2^30 bytes leaves just room for a batch, or just none.
 """
 
 import collections
@@ -39,7 +40,6 @@ import model_inputs as scenes
 import model_rows as rows
 import model_runs as runs
 
-MEMORY = 512 * 2**20
 NAMED = re.compile(rb'"(?:taken|name)":"([A-Za-z]+)"')
 NEVER = {"BadShip", "BadBatch", "Differs"}
 
@@ -532,11 +532,6 @@ def main_kill(program, moments=500, seed=1):
 # Room and time.
 
 
-def bounded():
-    """Bounds the memory of the program that is run."""
-    resource.setrlimit(resource.RLIMIT_AS, (MEMORY, MEMORY))
-
-
 def count_answers(replies, answers):
     """Counts the names of the answers of some replies as they come, and keeps none of them."""
     rest = b""
@@ -548,9 +543,10 @@ def count_answers(replies, answers):
     answers.update(NAMED.findall(rest))
 
 
-def fed(program, parts, folder):
-    """A run within the bound that gets some parts by a pipe, none of which is kept: MiB sent, status, processor seconds, all seconds, MiB resident, answers, notes."""
+def fed(program, parts, folder, bound):
+    """A run within some bytes of memory that gets some parts by a pipe, none of which is kept: MiB sent, status, processor seconds, all seconds, MiB resident, answers, notes."""
     sent, answers, begun = 0, collections.Counter(), time.monotonic()
+    bounded = functools.partial(resource.setrlimit, resource.RLIMIT_AS, (bound, bound))
     with open(folder + "/err", "wb") as noted:
         child = subprocess.Popen([program, "follow"], stdin=subprocess.PIPE, stdout=subprocess.PIPE, stderr=noted, cwd=folder, preexec_fn=bounded)
     reader = threading.Thread(target=count_answers, args=(child.stdout, answers))
@@ -626,7 +622,7 @@ def large_nexts(first, size):
         yield frame
 
 
-def main_room(program, mebibytes=64, only=""):
+def main_room(program, mebibytes=64, only="", memory=512):
     program, size, rand = os.path.abspath(program), int(mebibytes) * 2**20, random.Random(1)
     streams = list(room_streams(program, rand, size))
     first = whole_of(1, folders.batch_between({}, {b"\2": rows.number(30), bytes([rows.SERIAL]): struct.pack("<Q", 1)}))
@@ -636,7 +632,7 @@ def main_room(program, mebibytes=64, only=""):
         if not name.startswith(only):
             continue
         with tempfile.TemporaryDirectory() as folder:
-            length, status, processor, seconds, peak, answers, noted = fed(program, parts, folder)
+            length, status, processor, seconds, peak, answers, noted = fed(program, parts, folder, int(memory) * 2**20)
             print(f"{name}: {length:.1f} MiB: status {status}, {processor:.1f} processor s, {seconds:.1f} s, {peak:.0f} MiB resident, {answers} {noted}", flush=True)
 
 
