@@ -20,18 +20,33 @@ TESTS = re.compile(r'^ *call void (@llvm\.memset\.p0\.i64\(ptr %r\d+, i8 -86, |@
 LARGE = 1 << 20
 
 
+def is_read(folder):
+    """Whether a clang is at work below a folder: then the module that it reads there is whole."""
+    for number in filter(str.isdigit, os.listdir("/proc")):
+        with contextlib.suppress(OSError), open(f"/proc/{number}/comm", encoding="utf-8") as name:
+            if name.read().startswith("clang") and os.readlink(f"/proc/{number}/cwd").startswith(folder + "/"):
+                return True
+    return False
+
+
 def caught(crate, folder):
-    """The module of the crate that `rt try` hands to clang."""
+    """The module of the crate that `rt try` hands to clang. Once clang reads it `rt try` is ended: its own program is not needed."""
     kept = os.path.join(folder, "module.bc")
-    words, how = ["rt", "try", "--steps", "1000", "--", "dry"], {"stdin": subprocess.DEVNULL, "stdout": subprocess.DEVNULL}
-    tried = subprocess.Popen(words, cwd=crate, env={**os.environ, "TMPDIR": folder}, stderr=subprocess.STDOUT, **how)
-    while tried.poll() is None:
-        for inner, _, _ in os.walk(folder):
-            path = os.path.join(inner, "module.bc")
-            with contextlib.suppress(FileNotFoundError):
-                if inner != folder and not os.path.exists(kept) and os.path.getsize(path) > LARGE:
-                    os.link(path, kept)
-        time.sleep(0.05)
+    words = ["rt", "try", "--steps", "1000", "--", "dry"]
+    with tempfile.TemporaryFile() as said:
+        tried = subprocess.Popen(words, cwd=crate, env={**os.environ, "TMPDIR": folder}, stdin=subprocess.DEVNULL, stdout=said, stderr=subprocess.STDOUT)
+        while tried.poll() is None and not (os.path.exists(kept) and is_read(folder)):
+            for inner, _, _ in os.walk(folder):
+                path = os.path.join(inner, "module.bc")
+                with contextlib.suppress(FileNotFoundError):
+                    if inner != folder and not os.path.exists(kept) and os.path.getsize(path) > LARGE:
+                        os.link(path, kept)
+            time.sleep(0.05)
+        tried.terminate()
+        tried.wait()
+        if not os.path.exists(kept):
+            said.seek(0)
+            sys.exit(f"no module was caught of {crate}, whose `rt try` said:\n{said.read().decode(errors='replace')}")
     return kept
 
 

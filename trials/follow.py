@@ -2,8 +2,9 @@
 """Feeds the word `follow` of the built program what a leader ships, lost, repeated, out of order, cut and changed, and compares with an independent model.
 
 usage: follow.py ZITICTL [COUNT [SEED]]
+       follow.py compacted ZITICTL [LEADERS [SEED]]
        follow.py kill ZITICTL [MOMENTS [SEED]]
-       follow.py room ZITICTL [MIB]
+       follow.py room ZITICTL [MIB [NAME [MEMORY]]]
        follow.py journal ZITICTL
 
 The first form makes leaders by `replay` and `compact`, ships them by `ship 0` and `ship N`, and feeds streams of these frames to copies until COUNT frames were
@@ -11,18 +12,24 @@ taken, 20,000 if none is given. Each reply, the status, the notes and each file 
 docs/RULES.md and docs/FORMATS.md alone. Of a stream of one leader without changed bytes, the rows have to be none or some that the leader had, never earlier ones
 than before, and no reply is BadShip, BadBatch or Differs. A difference leaves the folder and the input in a new folder, which is named.
 
-The second form ends a run of `follow` by `kill -9` at random moments. The third one takes long streams within 512 MiB of memory. The
-last one compares copies whose slot of 2^30 bytes leaves just room for a batch, or just none.
+The second form compacts leaders between two ships: behind it a copy takes all that is shipped from the serial behind its own on, and is as the leader then. The
+third one ends a run of `follow` by `kill -9` at random moments. The fourth one takes long streams by a pipe within 512 MiB of memory, or as many as are
+given. The last one compares copies whose slot of 2^30 bytes leaves just room for a batch, or just none.
 """
 
 import collections
+import contextlib
+import functools
+import itertools
 import os
 import random
+import re
 import resource
 import struct
 import subprocess
 import sys
 import tempfile
+import threading
 import time
 
 import frames
@@ -33,7 +40,7 @@ import model_inputs as scenes
 import model_rows as rows
 import model_runs as runs
 
-MEMORY = 512 * 2**20
+NAMED = re.compile(rb'"(?:taken|name)":"([A-Za-z]+)"')
 NEVER = {"BadShip", "BadBatch", "Differs"}
 
 
@@ -351,6 +358,96 @@ def main_compare(program, most=20_000, seed=1):
     print(f"{taken} frames of {number} leaders, {time.monotonic() - begun:.0f} s, no difference")
 
 
+# Behind compactions.
+
+
+class Following:
+    """A leader that changes and is compacted, and three copies of it."""
+
+    def __init__(self, program, rand, tally):
+        self.program, self.rand, self.tally = program, rand, tally
+        self.leader, self.copies, self.shipped, self.is_compacted = {}, [{}, {}, {}], [], [False] * 3
+
+    def change(self, requests):
+        """The leader takes some commands, and is compacted by times before them, behind them or both."""
+        for words, many in (("compact", 0.3), ("replay", 1), ("compact", 0.4)):
+            if self.rand.random() < many:
+                self.leader = must_run(self.program, words, self.leader, b"".join(requests) if words == "replay" else b"")[1]
+                if words == "compact":
+                    self.is_compacted = [True] * 3
+
+    def ship(self, start):
+        """The frames of the leader from a serial on."""
+        found, status, _ = following.read_frames(must_run(self.program, f"ship {start}", self.leader)[0])
+        assert status == 0
+        self.shipped.append(found)
+        return found
+
+    def take(self, word, at, listed):
+        """A copy takes some frames: it is as before or as a state of the leader, and never falls back."""
+        before = folders.Look(self.copies[at]).state.serial
+        run = compare(self.program, word, self.copies[at], b"".join(frame.bytes() for frame in listed))
+        assert run.status == 0 and run.copy.own() >= before and not NEVER & {name for name, _ in run.answers}, (word, run.answers)
+        self.copies[at] = run.files
+        return [name for name, _ in run.answers]
+
+    def go_on(self, word, at):
+        """A copy takes what is shipped from the serial behind its own, or from 0 where it has no record: all of it, and then it is as the leader."""
+        records, present = records_of(self.copies[at])
+        start = folders.serial_in(present.get(following.SERIAL_KEY)) + 1 if records else 0
+        listed = self.ship(start)
+        names = self.take(word, at, listed)
+        assert set(names) <= {"Took", "Piece"}, (word, start, names)
+        assert records_of(self.copies[at])[1] == records_of(self.leader)[1], word
+        if records and self.is_compacted[at]:
+            self.tally["went on behind a compaction by " + ("a Whole" if listed and listed[0].content == folders.WHOLE else "Nexts" if listed else "nothing")] += 1
+        self.is_compacted[at] = False
+        self.tally["went on"] += 1
+
+    def turn(self, word, at):
+        """What a copy takes by times before it goes on: all from 0, from one serial too far, frames of earlier ships, and a ship that is cut off."""
+        way = self.rand.randrange(6)
+        own = folders.Look(self.copies[at]).state.serial
+        listed = self.ship(0) if way == 0 else self.ship(own + self.rand.choice([2, 2, 3])) if way == 1 else []
+        if way == 2:
+            listed = self.rand.choice(self.shipped or [[]])
+        elif way == 3:
+            listed = self.ship(own + 1)
+            listed = listed[:self.rand.randrange(len(listed) + 1)]
+        elif way == 4:
+            early = self.rand.choice(self.shipped or [[]])
+            listed = early[:self.rand.randrange(len(early) + 1)] + self.ship(self.rand.choice([0, own, own + 1]))
+        for name in self.take(f"{word}, way {way}", at, listed):
+            self.tally[f"{('all from 0', 'one too far', 'an earlier ship', 'a ship cut off', 'a ship cut off, and one more')[way]}: {name}"] += 1
+
+
+def main_compacted(program, many=100, seed=1):
+    """Leaders that are compacted between two ships, and copies that go on behind it by the serial behind their own."""
+    program, begun, tally = os.path.abspath(program), time.monotonic(), collections.Counter()
+    for number in range(int(many)):
+        rand = random.Random(f"compacted {seed} {number}")
+        trial = Following(program, rand, tally)
+        if rand.random() < 0.2:
+            old, trial.leader = damage.history(rand, 20, 1)
+            requests = scenes.behind(rand, old.pools, folders.Kept(trial.leader), 80).requests
+        elif rand.random() < 0.2:
+            trial.leader, requests = damage.sized_folder(2, folders.PIECE * rand.choice([1, 2]) + rand.choice([-1, 0, 1])), damage.probes(rand)
+        else:
+            requests = scenes.play(rand, 80).requests
+        for part in range(0, len(requests), 8):
+            word = f"seed {seed}, leader {number}, part {part}"
+            trial.change(requests[part:part + 8])
+            for at in range(3):
+                if rand.random() < 0.5:
+                    trial.turn(word, at)
+                if rand.random() < (0.9, 0.5, 0.2)[at]:
+                    trial.go_on(word, at)
+        if number % 20 == 19:
+            print(f"{number + 1} leaders, {time.monotonic() - begun:.0f} s", flush=True)
+    print("\n".join(f"{what}: {count}" for what, count in sorted(tally.items())))
+    print(f"{many} leaders of seed {seed}, {time.monotonic() - begun:.0f} s, no difference")
+
+
 # Stops.
 
 
@@ -435,22 +532,38 @@ def main_kill(program, moments=500, seed=1):
 # Room and time.
 
 
-def bounded():
-    """Bounds the memory of the program that is run."""
-    resource.setrlimit(resource.RLIMIT_AS, (MEMORY, MEMORY))
+def count_answers(replies, answers):
+    """Counts the names of the answers of some replies as they come, and keeps none of them."""
+    rest = b""
+    while data := replies.read1(2**20):
+        rest += data
+        end = rest.rfind(frames.MARKER)
+        answers.update(NAMED.findall(rest[:end]) if end > 0 else [])
+        rest = rest[max(end, 0):]
+    answers.update(NAMED.findall(rest))
 
 
-def peak_of(program, source, folder):
-    """The status of a run within the bound, its peak of resident memory in MiB, its seconds, and what it said and noted."""
-    with open(source, "rb") as stdin, open(folder + "/out", "wb") as said, open(folder + "/err", "wb") as noted:
-        begun = time.monotonic()
-        child = subprocess.Popen([program, "follow"], stdin=stdin, stdout=said, stderr=noted, cwd=folder, preexec_fn=bounded)
-        _, ended, used = os.wait4(child.pid, 0)
-        child.returncode = os.waitstatus_to_exitcode(ended)
-        seconds = time.monotonic() - begun
-    with open(folder + "/out", "rb") as said, open(folder + "/err", encoding="utf-8") as noted:
-        answers = collections.Counter(body.split(b'"taken":"' if b"taken" in body else b'"name":"')[1].split(b'"')[0].decode() for body in runs_of(said.read()))
-        return child.returncode, used.ru_maxrss / 1024, seconds, dict(answers), noted.read().strip()
+def fed(program, parts, folder, bound):
+    """A run within some bytes of memory that gets some parts by a pipe, none of which is kept: MiB sent, status, processor seconds, all seconds, MiB resident, answers, notes."""
+    sent, answers, begun = 0, collections.Counter(), time.monotonic()
+    bounded = functools.partial(resource.setrlimit, resource.RLIMIT_AS, (bound, bound))
+    with open(folder + "/err", "wb") as noted:
+        child = subprocess.Popen([program, "follow"], stdin=subprocess.PIPE, stdout=subprocess.PIPE, stderr=noted, cwd=folder, preexec_fn=bounded)
+    reader = threading.Thread(target=count_answers, args=(child.stdout, answers))
+    reader.start()
+    peak = frames.Peak(child.pid)
+    with contextlib.suppress(BrokenPipeError):
+        for part in parts:
+            child.stdin.write(part)
+            sent += len(part)
+    with contextlib.suppress(BrokenPipeError):
+        child.stdin.close()
+    _, ended, used = os.wait4(child.pid, 0)
+    child.returncode = os.waitstatus_to_exitcode(ended)
+    reader.join()
+    with open(folder + "/err", encoding="utf-8") as noted:
+        told = {name.decode(): count for name, count in answers.items()}
+        return sent / 2**20, child.returncode, used.ru_utime + used.ru_stime, time.monotonic() - begun, peak.most / 1024, told, noted.read().strip()
 
 
 def whole_of(serial, payload):
@@ -490,19 +603,37 @@ def altered_whole(rand, frame):
     return following.Frame(content, frame.sequence, frame.headers, rand.randbytes(len(frame.body))).bytes()
 
 
-def main_room(program, mebibytes=64):
+@functools.lru_cache(maxsize=2)
+def attributed(other):
+    """The rows of 250 identities with 63 attributes each, some 1 MiB; the other ones have none in common with them."""
+    named = [{"name": f"n{no}", "attributes": [f"{'a' * 59}{no % 64:02}{other}{k:02}" for k in range(63)]} for no in range(1, 251)]
+    return {struct.pack(">BI", 3, no): rows.value("identity", it) for no, it in enumerate(named, 1)}
+
+
+def large_nexts(first, size):
+    """A small Whole, and behind it Nexts that give 250 identities other attributes, a little more than such a size in all; the first one makes them."""
+    yield first
+    sent, serial = 0, 2
+    while sent < size + 3 * 2**20:
+        made = {b"\1\1": rows.number(251)} if serial == 2 else {}
+        body = folders.batch_between({}, {**made, **attributed(serial % 2), following.SERIAL_KEY: struct.pack("<Q", serial)})
+        frame = following.Frame(folders.NEXT, serial, [(1000, struct.pack("<Q", serial)), (1001, b"\0" * 4), (1002, b"\1\0\0\0")], body).bytes()
+        sent, serial = sent + len(frame), serial + 1
+        yield frame
+
+
+def main_room(program, mebibytes=64, only="", memory=512):
     program, size, rand = os.path.abspath(program), int(mebibytes) * 2**20, random.Random(1)
     streams = list(room_streams(program, rand, size))
-    whole = following.read_frames(whole_of(1, folders.batch_between({}, {b"\2": rows.number(30), bytes([rows.SERIAL]): struct.pack("<Q", 1)})))[0][0]
-    streams.append(("20,000 Nexts of a small state", iter([whole.bytes()] + [nexts(2 + at, at) for at in range(20_000)])))
+    first = whole_of(1, folders.batch_between({}, {b"\2": rows.number(30), bytes([rows.SERIAL]): struct.pack("<Q", 1)}))
+    streams.append(("Nexts of 1 MiB, each of the next serial", large_nexts(first, size)))
+    streams.append(("20,000 Nexts of a small state", itertools.chain([first], (nexts(2 + at, at) for at in range(20_000)))))
     for name, parts in streams:
+        if not name.startswith(only):
+            continue
         with tempfile.TemporaryDirectory() as folder:
-            with open(folder + "/in", "wb") as file:
-                for part in parts:
-                    file.write(part)
-            length = os.path.getsize(folder + "/in") / 2**20
-            status, peak, seconds, answers, noted = peak_of(program, folder + "/in", folder)
-            print(f"{name}: {length:.1f} MiB: status {status}, {seconds:.1f} s, {peak:.0f} MiB resident, {answers} {noted}", flush=True)
+            length, status, processor, seconds, peak, answers, noted = fed(program, parts, folder, int(memory) * 2**20)
+            print(f"{name}: {length:.1f} MiB: status {status}, {processor:.1f} processor s, {seconds:.1f} s, {peak:.0f} MiB resident, {answers} {noted}", flush=True)
 
 
 def main_journal(program):
@@ -516,7 +647,7 @@ def main_journal(program):
 
 
 def main():
-    forms = {"kill": main_kill, "room": main_room, "journal": main_journal}
+    forms = {"compacted": main_compacted, "kill": main_kill, "room": main_room, "journal": main_journal}
     words = sys.argv[1:]
     forms.get(words[0], lambda *rest: main_compare(*words))(*words[1:])
 

@@ -1,10 +1,13 @@
 """Frames, traces and runs of the built program, for the trials of this folder (docs/TRIALS.md)."""
 
+import contextlib
 import json
 import os
 import re
 import struct
 import subprocess
+import threading
+import time
 
 TOP = os.path.join(os.path.dirname(os.path.abspath(__file__)), "..")
 
@@ -103,10 +106,31 @@ def example(name):
     return requests, bodies
 
 
-def run(program, words, stdin, folder, seconds=60, limit=None):
+def run(program, words, stdin, folder, seconds=600, limit=None):
     """Runs the program to its end in a folder. Gives its status, standard output and standard error."""
     done = subprocess.run([program] + words.split(), input=stdin, capture_output=True, cwd=folder, timeout=seconds, preexec_fn=limit)
     return done.returncode, done.stdout, done.stderr
+
+
+def resident(number):
+    """The peak so far of a process's resident memory, in KiB; 0 once it has ended. What its parent held when it was made is not counted."""
+    with open(f"/proc/{number}/status", encoding="ascii") as file:
+        return sum(int(line.split()[1]) for line in file if line.startswith("VmHWM:"))
+
+
+class Peak(threading.Thread):
+    """Looks at the peak of a process's resident memory again and again until it has ended."""
+
+    def __init__(self, number):
+        super().__init__(daemon=True)
+        self.number, self.most = number, 0
+        self.start()
+
+    def run(self):
+        with contextlib.suppress(FileNotFoundError, ProcessLookupError):
+            while found := resident(self.number):
+                self.most = max(self.most, found)
+                time.sleep(0.01)
 
 
 def counts(program, folder):

@@ -81,12 +81,6 @@ def many_frames(program, pairs):
     print(f"dry: {2 * pairs} frames in one run, each done")
 
 
-def resident(number):
-    """The peak so far of a process's resident memory, in KiB; 0 once it has ended. What its parent held when it was made is not counted."""
-    with open(f"/proc/{number}/status", encoding="ascii") as file:
-        return sum(int(line.split()[1]) for line in file if line.startswith("VmHWM:"))
-
-
 def peak_memory(program, size):
     """Runs so many MiB of frames of 1 MiB each through `dry`, and prints the peak of its resident memory."""
     body = b"x" * (2**20 - 20)
@@ -100,7 +94,7 @@ def peak_memory(program, size):
     child.stdin.close()
     said, peak = b"", 0
     while some := os.read(child.stdout.fileno(), 65536):
-        said, peak = said + some, max(peak, resident(child.pid))
+        said, peak = said + some, max(peak, frames.resident(child.pid))
     assert child.wait() == 0 and len(frames.whole_frames(said)) == size
     print(f"dry: {size} frames, {size} MiB in all: a peak of {peak / 1024:.1f} MiB of resident memory")
 
