@@ -1,5 +1,5 @@
 -- The words of the command line, and what they ask for (docs/FORMATS.md, "The words of zitilook").
-use Rattle.std.specs.Prelude.{ℕ, List, [], ◌∷◌, codes, if◌then◌else◌, not, None, Some}
+use Rattle.std.specs.Prelude.{ℕ, Bool, false, List, [], ◌∷◌, codes, if◌then◌else◌, not, None, Some}
 use Rattle.std.specs.declared.option.Option.{Option}
 use Rattle.std.specs.Str.{bytes_eq}
 use Rattle.ctrl_model.specs.declared.kinds.Kind.TheVariants as kind
@@ -82,3 +82,13 @@ abbrev pub word_at : Place → List (List ℕ) → List ℕ
 word_at Second (word ∷ next ∷ words) = next
 word_at Third (word ∷ next ∷ third ∷ words) = third
 word_at _ _ = []
+
+-- Whether the words ask for the changes between two folders: `diff` and the place of the other one.
+abbrev pub is_diff : List (List ℕ) → Bool
+is_diff (word ∷ other ∷ []) = bytes_eq word (codes "diff")
+is_diff words = false
+
+-- The place of the other folder, among all words: the one behind `diff`, and else the working folder.
+abbrev pub other_place : List (List ℕ) → List ℕ
+other_place (program ∷ word ∷ place ∷ []) = if bytes_eq word (codes "diff") then place else codes "."
+other_place words = codes "."

@@ -14,6 +14,7 @@ pub fn page_text(page: Page) -> &'static [u8]
               why IDENTITY SERVICE  each rule of a circuit of the two, and what meets or fails it\n\
               who SERVICE           the identities that may dial a service, and the policies that grant it\n\
               doctor                what is wrong with the files of the folder, and the way back\n\
+              diff OTHER            the changes that lead from its state to that of the folder OTHER, a line each\n\
               help                  these lines\n\
               version               the version of the lines\n\
               KIND is identities, services, routers, links, service-policies, edge-router-policies, service-edge-router-policies, terminators, circuits or intercepts\n",

@@ -1,6 +1,6 @@
 ghost use Rattle.std.specs.Prelude.{◌≡◌, map};
 ghost use Rattle.std.specs.String.{string_bytes};
-ghost use Rattle.zitilook.specs.Words.{asked_alone, asked_of, asked_pair, asked_triple, asked_who, asked_why, kind_of, listing, showing, word_at};
+ghost use Rattle.zitilook.specs.Words.{asked_alone, asked_of, asked_pair, asked_triple, asked_who, asked_why, is_diff, kind_of, listing, other_place, showing, word_at};
 
 use ctrl_model::{Kind, Name};
 use record_lines::Listed;
@@ -164,5 +164,25 @@ pub fn word_at(place: Place, words: &[String]) -> &str
         (Place::Second, [_, word, ..]) => word.as_str(),
         (Place::Third, [_, _, word, ..]) => word.as_str(),
         _ => "",
+    }
+}
+
+/// Whether the words ask for the changes between two folders: `diff` and the place of the other one.
+pub fn is_diff(words: &[String]) -> bool
+    ensures { result ≡ is_diff (map string_bytes words.now) }
+{
+    match words {
+        [word, _] => word.as_str().as_bytes() == b"diff".as_slice(),
+        _ => false,
+    }
+}
+
+/// The place of the other folder, among all words that the system gave: the one behind `diff`, and else the working folder.
+pub fn other_place(words: &[String]) -> &str
+    ensures { result.now ≡ other_place (map string_bytes words.now) }
+{
+    match words {
+        [_, word, place] if word.as_str().as_bytes() == b"diff".as_slice() => place.as_str(),
+        _ => ".",
     }
 }
