@@ -1,6 +1,7 @@
 ghost use Rattle.std.specs.Prelude.{◌≡◌, [], ◌++◌, cond, decimal, IfOk, OnOk};
 ghost use Rattle.std.specs.List.{flat_map};
 ghost use Rattle.std.specs.Str.{bytes_eq};
+ghost use Rattle.ctrl_model.specs.declared.kinds.Kind.TheVariants as kind;
 ghost use Rattle.state_building.specs.BuiltStates.{state_in};
 ghost use Rattle.network_picture.specs.Pictures.{drawn_kinds as all_kinds, kind_drawn, network_drawn, picture_asked as asked_picture, picture_head, picture_of, way_picture};
 ghost use Rattle.network_picture.specs.RowPictures.{drawn_where, row_asked, row_drawn};
@@ -11,6 +12,32 @@ use itoa::Buffer;
 use record_lines::{Listed, is_of};
 use row_codec::Row;
 use std::alloc::{AllocError, Global};
+
+// Puts the line of a row that is a terminator; none of another.
+fn put_offer(text: &mut Vec<u8>, terminators: &[u32], row: &Row) -> Result<(), AllocError>
+    ensures { OnOk result (text.new.items ≡ text.old.items ++ drawn_where (record { links = []; terminators = terminators.now }) kind.Terminator row.now) }
+{
+    match row {
+        Row::Terminator {
+            no,
+            service,
+            router,
+            cost,
+            precedence,
+            ..
+        } => {
+            let marked = is_marked(terminators, no.0);
+            put_terminator(
+                text,
+                marked,
+                no.0,
+                (router.0, service.0),
+                (*cost, *precedence),
+            )
+        }
+        _ => Ok(()),
+    }
+}
 
 // Puts the line of the record that a row is.
 fn put_drawn(
@@ -43,23 +70,7 @@ fn put_drawn(
             let costs = (*cost, (*latency_a, *latency_b));
             put_link(text, marked, name, (a.0, b.0), costs, *up)
         }
-        Row::Terminator {
-            no,
-            service,
-            router,
-            cost,
-            precedence,
-            ..
-        } => {
-            let marked = is_marked(terminators, no.0);
-            put_terminator(
-                text,
-                marked,
-                no.0,
-                (router.0, service.0),
-                (*cost, *precedence),
-            )
-        }
+        Row::Terminator { .. } => put_offer(text, terminators, row),
         _ => Ok(()),
     }
 }
