@@ -6,6 +6,7 @@ use Rattle.ctrl_model.specs.NameForm.{is_name}
 use Rattle.ctrl_model.specs.State.{State}
 use Rattle.access_reasons.specs.ReasonLines.{lines_of as reason_lines}
 use Rattle.access_reasons.specs.Reasons.{who, why}
+use Rattle.dump_lines.specs.Dumps.{dump_lines}
 use Rattle.record_lines.specs.RecordLines.{lines_asked, lines_of}
 use Rattle.zitilook.specs.declared.telling.Look.{Look}
 use Rattle.zitilook.specs.declared.telling.Look.TheVariants as look
@@ -18,6 +19,7 @@ text_of (look.Lines l) s = lines_of l s
 text_of (look.Line l name) s = lines_asked l name.now s
 text_of (look.Why identity service) s = reason_lines (why s identity.now service.now)
 text_of (look.Who service) s = reason_lines (who s service.now)
+text_of look.Dump s = dump_lines s
 
 -- The name by which one record is asked for.
 abbrev pub asked_name : Look → Option (List ℕ)
@@ -39,3 +41,4 @@ HasNames (look.Lines l) = ⊤
 HasNames (look.Line l name) = ⊤
 HasNames (look.Why identity service) = (is_name identity.now ≡ true) × (is_name service.now ≡ true)
 HasNames (look.Who service) = is_name service.now ≡ true
+HasNames look.Dump = ⊤

@@ -53,7 +53,8 @@ showing (Some l) = asked.Show l
 -- What one word asks for, if it is a line of the table of words.
 abbrev pub asked_alone : List ℕ → Option Asked
 asked_alone word =
-    if bytes_eq word (codes "doctor") then Some asked.Doctor
+    if bytes_eq word (codes "dump") then Some asked.Dump
+    else if bytes_eq word (codes "doctor") then Some asked.Doctor
     else if bytes_eq word (codes "help") then Some (asked.Tell Help)
     else if bytes_eq word (codes "version") then Some (asked.Tell Version) else None
 

@@ -186,6 +186,7 @@ fn run_asked<D: Desk>(alloc: Global, asked: Asked, words: &[String], desk: &mut 
             desk,
         ),
         Asked::Who => run_look(alloc, &Look::Who { service: second }, desk),
+        Asked::Dump => run_look(alloc, &Look::Dump, desk),
         Asked::Doctor => run_doctor(alloc, desk),
         Asked::Unknown => tell_refused(unknown_note(alloc, second), desk),
         Asked::Misnamed(place) => {

@@ -16,6 +16,8 @@ pub enum Asked {
     Why,
     /// Who is granted Dial on a service, which the second word names.
     Who,
+    /// The lines of the commands that make the like of the state.
+    Dump,
     /// What is wrong with the folder, and the way back.
     Doctor,
     /// The lines of a kind that there is not. The second word is the one that names no kind.
@@ -109,11 +111,12 @@ fn asked_why(identity: &str, service: &str) -> Asked
     }
 }
 
-// What one word asks for: `doctor`, `help` or `version`.
+// What one word asks for: `dump`, `doctor`, `help` or `version`.
 fn asked_alone(word: &str) -> Option<Asked>
     ensures { result ≡ asked_alone word.now }
 {
     match word.as_bytes() {
+        name if name == b"dump".as_slice() => Some(Asked::Dump),
         name if name == b"doctor".as_slice() => Some(Asked::Doctor),
         name if name == b"help".as_slice() => Some(Asked::Tell(Page::Help)),
         name if name == b"version".as_slice() => Some(Asked::Tell(Page::Version)),
@@ -144,7 +147,7 @@ fn asked_triple(word: &str, next: &str, third: &str) -> Option<Asked>
 }
 
 /// What the words ask for, if they are a line of the table of words: `list KIND`, `show KIND NAME`, `why IDENTITY SERVICE`,
-/// `who SERVICE`, `doctor`, `help` or `version`.
+/// `who SERVICE`, `dump`, `doctor`, `help` or `version`.
 pub fn asked_of(words: &[String]) -> Option<Asked>
     ensures { result ≡ asked_of (map string_bytes words.now) }
 {
