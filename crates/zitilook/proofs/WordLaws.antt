@@ -7,7 +7,7 @@ use Rattle.zitilook.specs.declared.words.Asked.{Asked}
 use Rattle.zitilook.specs.declared.words.Asked.TheVariants as asked
 use Rattle.zitilook.specs.declared.words.Page.TheVariants.{Help, Version}
 use Rattle.zitilook.specs.declared.words.Place.TheVariants.{Second, Third}
-use Rattle.zitilook.specs.Words.{asked_alone, asked_of, asked_pair, asked_triple, asked_who, asked_why, kind_of, listing, showing, word_at}
+use Rattle.zitilook.specs.Words.{asked_of, asked_pair, asked_triple, asked_who, asked_why, kind_of, listing, showing, word_at}
 
 pub same_some : {A : Type 0} (x y : A) → Some x ≡ Some y → x ≡ y
 same_some x y is = cc
