@@ -58,17 +58,19 @@ who_no_why service is = by (branch (is_name service) asked.Who (asked.Misnamed S
     by (inl w) = let e : asked.Who ≡ asked.Why = w.1 in absurd cc
     by (inr w) = let e : asked.Misnamed Second ≡ asked.Why = w.1 in absurd cc
 
--- no one word asks for anything but a dump, what is wrong and the two pages
-alone_no : (asks : Asked) (word : List ℕ) → (asked.Dump ≡ asks → ⊥) → (asked.Doctor ≡ asks → ⊥) → (asked.Tell Help ≡ asks → ⊥) → (asked.Tell Version ≡ asks → ⊥)
-    → asked_of (word ∷ []) ≡ Some asks → ⊥
-alone_no asks word no_dump no_doctor no_help no_version =
+-- no one word asks for anything but a dump, a picture, what is wrong and the two pages
+alone_no : (asks : Asked) (word : List ℕ) → (asked.Dump ≡ asks → ⊥) → (asked.Picture ≡ asks → ⊥) → (asked.Doctor ≡ asks → ⊥) → (asked.Tell Help ≡ asks → ⊥)
+    → (asked.Tell Version ≡ asks → ⊥) → asked_of (word ∷ []) ≡ Some asks → ⊥
+alone_no asks word no_dump no_picture no_doctor no_help no_version =
     let version : Option Asked = if bytes_eq word (codes "version") then Some (asked.Tell Version) else None in
     let help : Option Asked = if bytes_eq word (codes "help") then Some (asked.Tell Help) else version in
     let doctor : Option Asked = if bytes_eq word (codes "doctor") then Some asked.Doctor else help in
-    chosen ⊥ (bytes_eq word (codes "dump")) asked.Dump asks doctor no_dump
+    let picture : Option Asked = if bytes_eq word (codes "picture") then Some asked.Picture else doctor in
+    chosen ⊥ (bytes_eq word (codes "dump")) asked.Dump asks picture no_dump
+    (chosen ⊥ (bytes_eq word (codes "picture")) asked.Picture asks doctor no_picture
     (chosen ⊥ (bytes_eq word (codes "doctor")) asked.Doctor asks help no_doctor
     (chosen ⊥ (bytes_eq word (codes "help")) (asked.Tell Help) asks version no_help
-    (chosen ⊥ (bytes_eq word (codes "version")) (asked.Tell Version) asks None no_version (none_left ⊥ asks))))
+    (chosen ⊥ (bytes_eq word (codes "version")) (asked.Tell Version) asks None no_version (none_left ⊥ asks)))))
 
 -- ---- why
 
@@ -90,9 +92,11 @@ why_words identity service is =
 -- no two words ask why
 pair_no_why : (word next : List ℕ) → asked_pair word next ≡ Some asked.Why → ⊥
 pair_no_why word next =
-    let who : Option Asked = if bytes_eq word (codes "who") then Some (asked_who next) else None in
+    let picture : Option Asked = if bytes_eq word (codes "picture") then Some asked.PictureOf else None in
+    let who : Option Asked = if bytes_eq word (codes "who") then Some (asked_who next) else picture in
     chosen ⊥ (bytes_eq word (codes "list")) (listing (kind_of next)) asked.Why who (listing_no_why (kind_of next))
-    (chosen ⊥ (bytes_eq word (codes "who")) (asked_who next) asked.Why None (who_no_why next) (none_left ⊥ asked.Why))
+    (chosen ⊥ (bytes_eq word (codes "who")) (asked_who next) asked.Why picture (who_no_why next)
+    (chosen ⊥ (bytes_eq word (codes "picture")) asked.PictureOf asked.Why None (λ (e : asked.PictureOf ≡ asked.Why). absurd cc) (none_left ⊥ asked.Why)))
 
 triple_why : (word next third : List ℕ) → asked_triple word next third ≡ Some asked.Why → (is_name next ≡ true) × (is_name third ≡ true)
 triple_why word next third =
@@ -103,7 +107,7 @@ triple_why word next third =
 pub why_names : (words : List (List ℕ)) → asked_of words ≡ Some asked.Why → (is_name (word_at Second words) ≡ true) × (is_name (word_at Third words) ≡ true)
 why_names [] is = absurd (none_some None asked.Why refl is)
 why_names (word ∷ []) is =
-    absurd (alone_no asked.Why word (λ (e : asked.Dump ≡ asked.Why). absurd cc) (λ (e : asked.Doctor ≡ asked.Why). absurd cc)
+    absurd (alone_no asked.Why word (λ (e : asked.Dump ≡ asked.Why). absurd cc) (λ (e : asked.Picture ≡ asked.Why). absurd cc) (λ (e : asked.Doctor ≡ asked.Why). absurd cc)
     (λ (e : asked.Tell Help ≡ asked.Why). absurd cc) (λ (e : asked.Tell Version ≡ asked.Why). absurd cc) is)
 why_names (word ∷ next ∷ []) is = absurd (pair_no_why word next is)
 why_names (word ∷ next ∷ third ∷ []) is = triple_why word next third is
@@ -133,9 +137,11 @@ why_no_who identity service is =
 
 pair_who : (word next : List ℕ) → asked_pair word next ≡ Some asked.Who → is_name next ≡ true
 pair_who word next =
-    let who : Option Asked = if bytes_eq word (codes "who") then Some (asked_who next) else None in
+    let picture : Option Asked = if bytes_eq word (codes "picture") then Some asked.PictureOf else None in
+    let who : Option Asked = if bytes_eq word (codes "who") then Some (asked_who next) else picture in
     chosen _ (bytes_eq word (codes "list")) (listing (kind_of next)) asked.Who who (λ e. absurd (listing_no_who (kind_of next) e))
-    (chosen _ (bytes_eq word (codes "who")) (asked_who next) asked.Who None (who_word next) (none_left _ asked.Who))
+    (chosen _ (bytes_eq word (codes "who")) (asked_who next) asked.Who picture (who_word next)
+    (chosen _ (bytes_eq word (codes "picture")) asked.PictureOf asked.Who None (λ (e : asked.PictureOf ≡ asked.Who). absurd cc) (none_left _ asked.Who)))
 
 -- no three words ask who
 triple_no_who : (word next third : List ℕ) → asked_triple word next third ≡ Some asked.Who → ⊥
@@ -147,7 +153,7 @@ triple_no_who word next third =
 pub who_name : (words : List (List ℕ)) → asked_of words ≡ Some asked.Who → is_name (word_at Second words) ≡ true
 who_name [] is = absurd (none_some None asked.Who refl is)
 who_name (word ∷ []) is =
-    absurd (alone_no asked.Who word (λ (e : asked.Dump ≡ asked.Who). absurd cc) (λ (e : asked.Doctor ≡ asked.Who). absurd cc)
+    absurd (alone_no asked.Who word (λ (e : asked.Dump ≡ asked.Who). absurd cc) (λ (e : asked.Picture ≡ asked.Who). absurd cc) (λ (e : asked.Doctor ≡ asked.Who). absurd cc)
     (λ (e : asked.Tell Help ≡ asked.Who). absurd cc) (λ (e : asked.Tell Version ≡ asked.Who). absurd cc) is)
 who_name (word ∷ next ∷ []) is = pair_who word next is
 who_name (word ∷ next ∷ third ∷ []) is = absurd (triple_no_who word next third is)

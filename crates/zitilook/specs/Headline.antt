@@ -7,6 +7,7 @@ use Rattle.ctrl_model.specs.State.{State}
 use Rattle.access_reasons.specs.ReasonLines.{lines_of as reason_lines}
 use Rattle.access_reasons.specs.Reasons.{who, why}
 use Rattle.dump_lines.specs.Dumps.{dump_lines}
+use Rattle.network_picture.specs.Pictures.{picture_asked, picture_of}
 use Rattle.record_lines.specs.RecordLines.{lines_asked, lines_of}
 use Rattle.run_notes.specs.NotedLines.{NotesLines}
 use Rattle.zitilook.specs.declared.words.Page.{Page}
@@ -35,6 +36,8 @@ told_of words (asked.Show l) = Some (λ s. found (absent_note (word_at Third wor
 told_of words asked.Why = Some (λ s. Ok (reason_lines (why s (word_at Second words) (word_at Third words))))
 told_of words asked.Who = Some (λ s. Ok (reason_lines (who s (word_at Second words))))
 told_of words asked.Dump = Some (λ s. Ok (dump_lines s))
+told_of words asked.Picture = Some (λ s. Ok (picture_of s))
+told_of words asked.PictureOf = Some (λ s. found (absent_note (word_at Second words)) (picture_asked (word_at Second words) s))
 told_of words asked.Doctor = None
 told_of words asked.Unknown = None
 told_of words (asked.Misnamed place) = None
@@ -51,9 +54,10 @@ refusal_of words _ = None
 -- Usage comes exactly where they are no line. Then nothing is said, and the usage line is noted.
 -- What is asked of the folder's state is said of it: under `list KIND` the lines of its records of the kind, or those of its intercepts,
 -- under `show KIND NAME` the line of the one of this name, under `why IDENTITY SERVICE` those of the findings on the two, under
--- `who SERVICE` those on all that may dial it, under `dump` the lines of the commands that make the like of it. Where none has the name, it
--- is noted. The folder is opened by reading alone. Where it opens to no state, nothing is said, and why is noted. Where KIND is none, or a
--- word is no name, no folder is opened, and the word is noted.
+-- `who SERVICE` those on all that may dial it, under `dump` those of the commands that make the like of it, and under `picture` the picture of
+-- its network, with the way of a circuit where one is asked for. Where none has the name or the number, it is noted. The folder is opened by
+-- reading alone. Where it opens to no state, nothing is said, and why is noted. Where KIND is none, or a word is no name, no folder is
+-- opened, and the word is noted.
 -- Under `doctor` what is found in its files is said, and whether it opens to a state, also where it opens to none.
 -- A page about the program is said without memory.
 -- A fault comes exactly where its count rose in this run. Whatever is asked for, the folder is left alone.

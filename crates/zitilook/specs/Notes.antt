@@ -12,7 +12,7 @@ note_of told = codes "zitilook: " ++ (told ++ codes "\n")
 -- The note of a status that tells nothing else.
 abbrev pub notes_of : Status → List ℕ
 notes_of Done = []
-notes_of Usage = note_of (codes "usage: zitilook list KIND | show KIND NAME | why IDENTITY SERVICE | who SERVICE | dump | doctor | diff OTHER | help | version")
+notes_of Usage = note_of (codes "usage: zitilook list KIND | show KIND NAME | why IDENTITY SERVICE | who SERVICE | dump | picture [CIRCUIT] | doctor | diff OTHER | help | version")
 notes_of Found = note_of (codes "something is wrong with the folder")
 notes_of Unknown = []
 notes_of Differs = []

@@ -54,6 +54,7 @@ showing (Some l) = asked.Show l
 abbrev pub asked_alone : List ℕ → Option Asked
 asked_alone word =
     if bytes_eq word (codes "dump") then Some asked.Dump
+    else if bytes_eq word (codes "picture") then Some asked.Picture
     else if bytes_eq word (codes "doctor") then Some asked.Doctor
     else if bytes_eq word (codes "help") then Some (asked.Tell Help)
     else if bytes_eq word (codes "version") then Some (asked.Tell Version) else None
@@ -62,7 +63,8 @@ asked_alone word =
 abbrev pub asked_pair : (word next : List ℕ) → Option Asked
 asked_pair word next =
     if bytes_eq word (codes "list") then Some (listing (kind_of next))
-    else if bytes_eq word (codes "who") then Some (asked_who next) else None
+    else if bytes_eq word (codes "who") then Some (asked_who next)
+    else if bytes_eq word (codes "picture") then Some asked.PictureOf else None
 
 -- What three words ask for, if they are a line of the table of words.
 abbrev pub asked_triple : (word next third : List ℕ) → Option Asked

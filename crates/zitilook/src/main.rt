@@ -1,5 +1,6 @@
-//! The program zitilook: the records of a controller's folder as lines, the commands that make the like of it, why an identity can or
-//! cannot reach a service, what is wrong with the folder's files, and what another folder has otherwise, by reading the folders alone.
+//! The program zitilook: the records of a controller's folder as lines, the commands that make the like of it, a picture of its network,
+//! why an identity can or cannot reach a service, what is wrong with the folder's files, and what another folder has otherwise, by reading
+//! the folders alone.
 #![tactic(auto)]
 
 mod comparing;

@@ -15,7 +15,7 @@ pub fn status_note(status: Status) -> &'static [u8]
 {
     match status {
         Status::Usage =>
-            b"zitilook: usage: zitilook list KIND | show KIND NAME | why IDENTITY SERVICE | who SERVICE | dump | doctor | diff OTHER | help | version\n",
+            b"zitilook: usage: zitilook list KIND | show KIND NAME | why IDENTITY SERVICE | who SERVICE | dump | picture [CIRCUIT] | doctor | diff OTHER | help | version\n",
         Status::Found => b"zitilook: something is wrong with the folder\n",
         Status::WriteFault => b"zitilook: write fault\n",
         Status::DiskFault => b"zitilook: disk fault\n",

@@ -187,6 +187,8 @@ fn run_asked<D: Desk>(alloc: Global, asked: Asked, words: &[String], desk: &mut 
         ),
         Asked::Who => run_look(alloc, &Look::Who { service: second }, desk),
         Asked::Dump => run_look(alloc, &Look::Dump, desk),
+        Asked::Picture => run_look(alloc, &Look::Picture, desk),
+        Asked::PictureOf => run_look(alloc, &Look::PictureOf { circuit: second }, desk),
         Asked::Doctor => run_doctor(alloc, desk),
         Asked::Unknown => tell_refused(unknown_note(alloc, second), desk),
         Asked::Misnamed(place) => {

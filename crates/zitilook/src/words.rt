@@ -18,6 +18,10 @@ pub enum Asked {
     Who,
     /// The lines of the commands that make the like of the state.
     Dump,
+    /// The picture of the network.
+    Picture,
+    /// That picture with the way of the circuit marked whose number the second word is.
+    PictureOf,
     /// What is wrong with the folder, and the way back.
     Doctor,
     /// The lines of a kind that there is not. The second word is the one that names no kind.
@@ -111,12 +115,13 @@ fn asked_why(identity: &str, service: &str) -> Asked
     }
 }
 
-// What one word asks for: `dump`, `doctor`, `help` or `version`.
+// What one word asks for: `dump`, `picture`, `doctor`, `help` or `version`.
 fn asked_alone(word: &str) -> Option<Asked>
     ensures { result ≡ asked_alone word.now }
 {
     match word.as_bytes() {
         name if name == b"dump".as_slice() => Some(Asked::Dump),
+        name if name == b"picture".as_slice() => Some(Asked::Picture),
         name if name == b"doctor".as_slice() => Some(Asked::Doctor),
         name if name == b"help".as_slice() => Some(Asked::Tell(Page::Help)),
         name if name == b"version".as_slice() => Some(Asked::Tell(Page::Version)),
@@ -124,13 +129,14 @@ fn asked_alone(word: &str) -> Option<Asked>
     }
 }
 
-// What two words ask for: `list KIND` or `who SERVICE`.
+// What two words ask for: `list KIND`, `who SERVICE` or `picture CIRCUIT`.
 fn asked_pair(word: &str, next: &str) -> Option<Asked>
     ensures { result ≡ asked_pair word.now next.now }
 {
     match word.as_bytes() {
         name if name == b"list".as_slice() => Some(listing(kind_of(next.as_bytes()))),
         name if name == b"who".as_slice() => Some(asked_who(next)),
+        name if name == b"picture".as_slice() => Some(Asked::PictureOf),
         _ => None,
     }
 }
@@ -147,7 +153,7 @@ fn asked_triple(word: &str, next: &str, third: &str) -> Option<Asked>
 }
 
 /// What the words ask for, if they are a line of the table of words: `list KIND`, `show KIND NAME`, `why IDENTITY SERVICE`,
-/// `who SERVICE`, `dump`, `doctor`, `help` or `version`.
+/// `who SERVICE`, `dump`, `picture`, `picture CIRCUIT`, `doctor`, `help` or `version`.
 pub fn asked_of(words: &[String]) -> Option<Asked>
     ensures { result ≡ asked_of (map string_bytes words.now) }
 {

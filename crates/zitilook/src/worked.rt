@@ -2,7 +2,7 @@ ghost use Rattle.std.specs.Prelude.{◌≡◌, true, false, [], ◌∷◌, codes
 ghost use Rattle.ctrl_model.specs.declared.kinds.Kind.TheVariants as kind;
 ghost use Rattle.ziti_outside.specs.declared.desk.Part.TheVariants.{Zero};
 ghost use Rattle.record_lines.specs.declared.listing.Listed.TheVariants.{Intercepts, Records};
-ghost use Rattle.zitilook.specs.declared.words.Asked.TheVariants.{List as Lists, Show, Why, Who, Dump, Doctor, Unknown, Misnamed, Tell};
+ghost use Rattle.zitilook.specs.declared.words.Asked.TheVariants.{List as Lists, Show, Why, Who, Dump, Picture, PictureOf, Doctor, Unknown, Misnamed, Tell};
 ghost use Rattle.zitilook.specs.declared.words.Page.TheVariants.{Help, Version};
 ghost use Rattle.zitilook.specs.declared.words.Place.TheVariants.{Second, Third};
 ghost use Rattle.zitilook.specs.Looks.{found};
@@ -33,6 +33,9 @@ pub fn worked_words()
     ensures nobody { asked_of (codes "who" ∷ codes "w/b" ∷ []) ≡ Some (Misnamed Second) }
     ensures dump { asked_of (codes "dump" ∷ []) ≡ Some Dump }
     ensures dump_of_a_kind { asked_of (codes "dump" ∷ codes "links" ∷ []) ≡ None }
+    ensures picture { asked_of (codes "picture" ∷ []) ≡ Some Picture }
+    ensures picture_of_any_word { asked_of (codes "picture" ∷ codes "ann" ∷ []) ≡ Some PictureOf }
+    ensures picture_of_two { asked_of (codes "picture" ∷ codes "1" ∷ codes "2" ∷ []) ≡ None }
     ensures doctor { asked_of (codes "doctor" ∷ []) ≡ Some Doctor }
     ensures help { asked_of (codes "help" ∷ []) ≡ Some (Tell Help) }
     ensures version { asked_of (codes "version" ∷ []) ≡ Some (Tell Version) }
