@@ -1,4 +1,4 @@
-//! Tests of what is read and written where no run of the other crates of tests does so: a frame alone, lines, records and traces told, a row alone,
+//! Tests of what is read and written where no run of the other crates of tests does so: a frame alone, lines, records and traces told, networks drawn, a row alone,
 //! and bodies that no run writes. What a run reads and writes is shown by its replies and its folder.
 #![tactic(auto)]
 
@@ -12,6 +12,8 @@ mod checks;
 mod frames;
 #[cfg(test)]
 mod lines;
+#[cfg(test)]
+mod pictures;
 #[cfg(test)]
 mod records;
 #[cfg(test)]

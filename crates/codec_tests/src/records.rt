@@ -45,7 +45,8 @@ fn terminator(alloc: Global) -> Result<Row, Fail> {
     })
 }
 
-fn rows(alloc: Global) -> Result<Vec<Row>, Fail> {
+/// An identity, a service and a terminator, whose router is absent.
+pub(crate) fn rows(alloc: Global) -> Result<Vec<Row>, Fail> {
     let mut rows = Vec::new(alloc);
     rows.push(ann(alloc)?)?;
     rows.push(web(alloc)?)?;

@@ -8,7 +8,7 @@ use Rattle.ziti_outside.specs.Views.{Seen, Stopped}
 use Rattle.ziti_outside.proofs.MomentLaws.{Elapses-then, Elapses-weaker}
 use Rattle.run_notes.specs.NotedLines.{FindsNoMore}
 use Rattle.zitilook.specs.declared.status.Status.{Status}
-use Rattle.zitilook.specs.declared.status.Status.TheVariants.{Done, WriteFault, DiskFault}
+use Rattle.zitilook.specs.declared.status.Status.TheVariants.{WriteFault, DiskFault}
 use Rattle.zitilook.specs.Looks.{HasCauses, IsLeftAlone}
 use Rattle.zitilook.specs.Steps.{EndsSo}
 
@@ -95,12 +95,11 @@ noted_ends seen stopped old new status unwritten undisked notes more = record {
 }
 
 -- a text was said
-pub said_ends : {D : Type 0} (seen : D → Seen) (stopped : D → Stopped) (old mid new : D) (status : Status) (bytes : List ℕ) → status ≡ Done
+pub said_ends : {D : Type 0} (seen : D → Seen) (stopped : D → Stopped) (old mid new : D) (status : Status) (bytes : List ℕ) → (status ≡ WriteFault → ⊥) → (status ≡ DiskFault → ⊥)
     → OnlySays seen stopped old mid → Elapses (stopped old) (stopped mid) (Saying (stopped old).images (seen old).said bytes) → (seen mid).say_faults ≡ (seen old).say_faults
     → OnlyNotes seen stopped mid new → FindsNoMore stopped mid new → EndsSo seen stopped old new status
-said_ends seen stopped old mid new status bytes is says stops same notes more = record {
-  causes = calm (seen old) (seen new) status (λ (e : status ≡ WriteFault). absurd cc) (λ (e : status ≡ DiskFault). absurd cc)
-      (notes.failed_says ∙ same) (notes.failed_calls ∙ says.failed_calls);
+said_ends seen stopped old mid new status bytes unwritten undisked says stops same notes more = record {
+  causes = calm (seen old) (seen new) status unwritten undisked (notes.failed_says ∙ same) (notes.failed_calls ∙ says.failed_calls);
   folder = LeftAlone-then (said_alone (seen old).said bytes says stops) (noted_alone notes more);
 }
 

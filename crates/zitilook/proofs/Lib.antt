@@ -4,3 +4,4 @@ pub mod OpenedLaws
 pub mod WordLaws
 pub mod RunLaws
 pub mod FindingLaws
+pub mod ComparingLaws

@@ -11,7 +11,7 @@ use Rattle.zitilook.specs.Looks.{Refuses, Says, SaysText, Tells, found}
 use Rattle.zitilook.specs.Notes.{notes_of}
 
 -- the notes of a status, since a desk that had noted the same
-noted_since : (is status : Status) (a b c : Seen) → status ≡ is → b.noted ≡ a.noted → b.note_faults ≡ a.note_faults → NotesLines (notes_of is) b c
+pub noted_since : (is status : Status) (a b c : Seen) → status ≡ is → b.noted ≡ a.noted → b.note_faults ≡ a.note_faults → NotesLines (notes_of is) b c
     → NotesLines (notes_of status) a c
 noted_since is status a b c e q r noted = notes_from (notes_of status) a b c q r (subst (λ (s : Status). NotesLines (notes_of s) b c) (sym e) noted)
 

@@ -7,7 +7,7 @@ use Rattle.zitilook.specs.declared.words.Asked.{Asked}
 use Rattle.zitilook.specs.declared.words.Asked.TheVariants as asked
 use Rattle.zitilook.specs.declared.words.Page.TheVariants.{Help, Version}
 use Rattle.zitilook.specs.declared.words.Place.TheVariants.{Second, Third}
-use Rattle.zitilook.specs.Words.{asked_alone, asked_of, asked_pair, asked_triple, asked_who, asked_why, kind_of, listing, showing, word_at}
+use Rattle.zitilook.specs.Words.{asked_of, asked_pair, asked_triple, asked_who, asked_why, kind_of, listing, showing, word_at}
 
 pub same_some : {A : Type 0} (x y : A) → Some x ≡ Some y → x ≡ y
 same_some x y is = cc
@@ -23,6 +23,15 @@ branch false x y z is = inr (refl, is)
 is_no : (b : Bool) → not b ≡ false → b ≡ true
 is_no true is = refl
 is_no false is = absurd cc
+
+-- what follows where one word of some asks for something: it is the first of them, or one behind it
+chosen : (P : Type 0) (b : Bool) (first asks : Asked) (rest : Option Asked) → (first ≡ asks → P) → (rest ≡ Some asks → P) → (if b then Some first else rest) ≡ Some asks → P
+chosen P true first asks rest this other is = this (same_some first asks is)
+chosen P false first asks rest this other is = other is
+
+-- behind the last one there is none
+none_left : (P : Type 0) (asks : Asked) → None ≡ Some asks → P
+none_left P asks is = absurd (none_some None asks refl is)
 
 -- ---- records of a kind, and pages, ask for no name
 
@@ -49,6 +58,20 @@ who_no_why service is = by (branch (is_name service) asked.Who (asked.Misnamed S
     by (inl w) = let e : asked.Who ≡ asked.Why = w.1 in absurd cc
     by (inr w) = let e : asked.Misnamed Second ≡ asked.Why = w.1 in absurd cc
 
+-- no one word asks for anything but a dump, a picture, what is wrong and the two pages
+alone_no : (asks : Asked) (word : List ℕ) → (asked.Dump ≡ asks → ⊥) → (asked.Picture ≡ asks → ⊥) → (asked.Doctor ≡ asks → ⊥) → (asked.Tell Help ≡ asks → ⊥)
+    → (asked.Tell Version ≡ asks → ⊥) → asked_of (word ∷ []) ≡ Some asks → ⊥
+alone_no asks word no_dump no_picture no_doctor no_help no_version =
+    let version : Option Asked = if bytes_eq word (codes "version") then Some (asked.Tell Version) else None in
+    let help : Option Asked = if bytes_eq word (codes "help") then Some (asked.Tell Help) else version in
+    let doctor : Option Asked = if bytes_eq word (codes "doctor") then Some asked.Doctor else help in
+    let picture : Option Asked = if bytes_eq word (codes "picture") then Some asked.Picture else doctor in
+    chosen ⊥ (bytes_eq word (codes "dump")) asked.Dump asks picture no_dump
+    (chosen ⊥ (bytes_eq word (codes "picture")) asked.Picture asks doctor no_picture
+    (chosen ⊥ (bytes_eq word (codes "doctor")) asked.Doctor asks help no_doctor
+    (chosen ⊥ (bytes_eq word (codes "help")) (asked.Tell Help) asks version no_help
+    (chosen ⊥ (bytes_eq word (codes "version")) (asked.Tell Version) asks None no_version (none_left ⊥ asks)))))
+
 -- ---- why
 
 why_words : (identity service : List ℕ) → asked_why identity service ≡ asked.Why → (is_name identity ≡ true) × (is_name service ≡ true)
@@ -68,57 +91,26 @@ why_words identity service is =
 
 -- no two words ask why
 pair_no_why : (word next : List ℕ) → asked_pair word next ≡ Some asked.Why → ⊥
-pair_no_why word next is =
-    first (branch (bytes_eq word (codes "list")) (Some (listing (kind_of next))) (if bytes_eq word (codes "who") then Some (asked_who next) else None) (Some asked.Why) is)
-  where
-    second : ((bytes_eq word (codes "who") ≡ true) × (Some (asked_who next) ≡ Some asked.Why)) ⊎ ((bytes_eq word (codes "who") ≡ false) × (None ≡ Some asked.Why)) → ⊥
-    second (inl w) = who_no_why next (same_some (asked_who next) asked.Why w.1)
-    second (inr w) = none_some None asked.Why refl w.1
+pair_no_why word next =
+    let picture : Option Asked = if bytes_eq word (codes "picture") then Some asked.PictureOf else None in
+    let who : Option Asked = if bytes_eq word (codes "who") then Some (asked_who next) else picture in
+    chosen ⊥ (bytes_eq word (codes "list")) (listing (kind_of next)) asked.Why who (listing_no_why (kind_of next))
+    (chosen ⊥ (bytes_eq word (codes "who")) (asked_who next) asked.Why picture (who_no_why next)
+    (chosen ⊥ (bytes_eq word (codes "picture")) asked.PictureOf asked.Why None (λ (e : asked.PictureOf ≡ asked.Why). absurd cc) (none_left ⊥ asked.Why)))
 
-    first : ((bytes_eq word (codes "list") ≡ true) × (Some (listing (kind_of next)) ≡ Some asked.Why))
-        ⊎ ((bytes_eq word (codes "list") ≡ false) × ((if bytes_eq word (codes "who") then Some (asked_who next) else None) ≡ Some asked.Why)) → ⊥
-    first (inl w) = listing_no_why (kind_of next) (same_some (listing (kind_of next)) asked.Why w.1)
-    first (inr w) = second (branch (bytes_eq word (codes "who")) (Some (asked_who next)) None (Some asked.Why) w.1)
-
--- no one word asks for anything but what is wrong and the two pages
-alone_no : (asks : Asked) (word : List ℕ) → (asked.Doctor ≡ asks → ⊥) → (asked.Tell Help ≡ asks → ⊥) → (asked.Tell Version ≡ asks → ⊥)
-    → asked_of (word ∷ []) ≡ Some asks → ⊥
-alone_no asks word no_doctor no_help no_version is =
-    first (branch (bytes_eq word (codes "doctor")) (Some asked.Doctor)
-    (if bytes_eq word (codes "help") then Some (asked.Tell Help) else if bytes_eq word (codes "version") then Some (asked.Tell Version) else None) (Some asks) is)
-  where
-    third : ((bytes_eq word (codes "version") ≡ true) × (Some (asked.Tell Version) ≡ Some asks)) ⊎ ((bytes_eq word (codes "version") ≡ false) × (None ≡ Some asks)) → ⊥
-    third (inl w) = no_version (same_some (asked.Tell Version) asks w.1)
-    third (inr w) = none_some None asks refl w.1
-
-    second : ((bytes_eq word (codes "help") ≡ true) × (Some (asked.Tell Help) ≡ Some asks))
-        ⊎ ((bytes_eq word (codes "help") ≡ false) × ((if bytes_eq word (codes "version") then Some (asked.Tell Version) else None) ≡ Some asks)) → ⊥
-    second (inl w) = no_help (same_some (asked.Tell Help) asks w.1)
-    second (inr w) = third (branch (bytes_eq word (codes "version")) (Some (asked.Tell Version)) None (Some asks) w.1)
-
-    first : ((bytes_eq word (codes "doctor") ≡ true) × (Some asked.Doctor ≡ Some asks))
-        ⊎ ((bytes_eq word (codes "doctor") ≡ false)
-        × ((if bytes_eq word (codes "help") then Some (asked.Tell Help) else if bytes_eq word (codes "version") then Some (asked.Tell Version) else None) ≡ Some asks)) → ⊥
-    first (inl w) = no_doctor (same_some asked.Doctor asks w.1)
-    first (inr w) = second (branch (bytes_eq word (codes "help")) (Some (asked.Tell Help)) (if bytes_eq word (codes "version") then Some (asked.Tell Version) else None) (Some asks) w.1)
+triple_why : (word next third : List ℕ) → asked_triple word next third ≡ Some asked.Why → (is_name next ≡ true) × (is_name third ≡ true)
+triple_why word next third =
+    let why : Option Asked = if bytes_eq word (codes "why") then Some (asked_why next third) else None in
+    chosen _ (bytes_eq word (codes "show")) (showing (kind_of next)) asked.Why why (λ e. absurd (showing_no_why (kind_of next) e))
+    (chosen _ (bytes_eq word (codes "why")) (asked_why next third) asked.Why None (why_words next third) (none_left _ asked.Why))
 
 pub why_names : (words : List (List ℕ)) → asked_of words ≡ Some asked.Why → (is_name (word_at Second words) ≡ true) × (is_name (word_at Third words) ≡ true)
 why_names [] is = absurd (none_some None asked.Why refl is)
-why_names (word ∷ []) is = absurd (alone_no asked.Why word (λ (e : asked.Doctor ≡ asked.Why). absurd cc) (λ (e : asked.Tell Help ≡ asked.Why). absurd cc) (λ (e : asked.Tell Version ≡ asked.Why). absurd cc) is)
+why_names (word ∷ []) is =
+    absurd (alone_no asked.Why word (λ (e : asked.Dump ≡ asked.Why). absurd cc) (λ (e : asked.Picture ≡ asked.Why). absurd cc) (λ (e : asked.Doctor ≡ asked.Why). absurd cc)
+    (λ (e : asked.Tell Help ≡ asked.Why). absurd cc) (λ (e : asked.Tell Version ≡ asked.Why). absurd cc) is)
 why_names (word ∷ next ∷ []) is = absurd (pair_no_why word next is)
-why_names (word ∷ next ∷ third ∷ []) is =
-    first (branch (bytes_eq word (codes "show")) (Some (showing (kind_of next))) (if bytes_eq word (codes "why") then Some (asked_why next third) else None) (Some asked.Why) is)
-  where
-    second : ((bytes_eq word (codes "why") ≡ true) × (Some (asked_why next third) ≡ Some asked.Why)) ⊎ ((bytes_eq word (codes "why") ≡ false) × (None ≡ Some asked.Why))
-        → (is_name next ≡ true) × (is_name third ≡ true)
-    second (inl w) = why_words next third (same_some (asked_why next third) asked.Why w.1)
-    second (inr w) = absurd (none_some None asked.Why refl w.1)
-
-    first : ((bytes_eq word (codes "show") ≡ true) × (Some (showing (kind_of next)) ≡ Some asked.Why))
-        ⊎ ((bytes_eq word (codes "show") ≡ false) × ((if bytes_eq word (codes "why") then Some (asked_why next third) else None) ≡ Some asked.Why))
-        → (is_name next ≡ true) × (is_name third ≡ true)
-    first (inl w) = absurd (showing_no_why (kind_of next) (same_some (showing (kind_of next)) asked.Why w.1))
-    first (inr w) = second (branch (bytes_eq word (codes "why")) (Some (asked_why next third)) None (Some asked.Why) w.1)
+why_names (word ∷ next ∷ third ∷ []) is = triple_why word next third is
 why_names (word ∷ next ∷ third ∷ fourth ∷ words) is = absurd (none_some None asked.Why refl is)
 
 -- ---- who
@@ -144,34 +136,25 @@ why_no_who identity service is =
     first (inr w) = second (branch (not (is_name service)) (asked.Misnamed Third) asked.Why asked.Who w.1)
 
 pair_who : (word next : List ℕ) → asked_pair word next ≡ Some asked.Who → is_name next ≡ true
-pair_who word next is =
-    first (branch (bytes_eq word (codes "list")) (Some (listing (kind_of next))) (if bytes_eq word (codes "who") then Some (asked_who next) else None) (Some asked.Who) is)
-  where
-    second : ((bytes_eq word (codes "who") ≡ true) × (Some (asked_who next) ≡ Some asked.Who)) ⊎ ((bytes_eq word (codes "who") ≡ false) × (None ≡ Some asked.Who))
-        → is_name next ≡ true
-    second (inl w) = who_word next (same_some (asked_who next) asked.Who w.1)
-    second (inr w) = absurd (none_some None asked.Who refl w.1)
+pair_who word next =
+    let picture : Option Asked = if bytes_eq word (codes "picture") then Some asked.PictureOf else None in
+    let who : Option Asked = if bytes_eq word (codes "who") then Some (asked_who next) else picture in
+    chosen _ (bytes_eq word (codes "list")) (listing (kind_of next)) asked.Who who (λ e. absurd (listing_no_who (kind_of next) e))
+    (chosen _ (bytes_eq word (codes "who")) (asked_who next) asked.Who picture (who_word next)
+    (chosen _ (bytes_eq word (codes "picture")) asked.PictureOf asked.Who None (λ (e : asked.PictureOf ≡ asked.Who). absurd cc) (none_left _ asked.Who)))
 
-    first : ((bytes_eq word (codes "list") ≡ true) × (Some (listing (kind_of next)) ≡ Some asked.Who))
-        ⊎ ((bytes_eq word (codes "list") ≡ false) × ((if bytes_eq word (codes "who") then Some (asked_who next) else None) ≡ Some asked.Who)) → is_name next ≡ true
-    first (inl w) = absurd (listing_no_who (kind_of next) (same_some (listing (kind_of next)) asked.Who w.1))
-    first (inr w) = second (branch (bytes_eq word (codes "who")) (Some (asked_who next)) None (Some asked.Who) w.1)
+-- no three words ask who
+triple_no_who : (word next third : List ℕ) → asked_triple word next third ≡ Some asked.Who → ⊥
+triple_no_who word next third =
+    let why : Option Asked = if bytes_eq word (codes "why") then Some (asked_why next third) else None in
+    chosen ⊥ (bytes_eq word (codes "show")) (showing (kind_of next)) asked.Who why (showing_no_who (kind_of next))
+    (chosen ⊥ (bytes_eq word (codes "why")) (asked_why next third) asked.Who None (why_no_who next third) (none_left ⊥ asked.Who))
 
 pub who_name : (words : List (List ℕ)) → asked_of words ≡ Some asked.Who → is_name (word_at Second words) ≡ true
 who_name [] is = absurd (none_some None asked.Who refl is)
-who_name (word ∷ []) is = absurd (alone_no asked.Who word (λ (e : asked.Doctor ≡ asked.Who). absurd cc) (λ (e : asked.Tell Help ≡ asked.Who). absurd cc) (λ (e : asked.Tell Version ≡ asked.Who). absurd cc) is)
+who_name (word ∷ []) is =
+    absurd (alone_no asked.Who word (λ (e : asked.Dump ≡ asked.Who). absurd cc) (λ (e : asked.Picture ≡ asked.Who). absurd cc) (λ (e : asked.Doctor ≡ asked.Who). absurd cc)
+    (λ (e : asked.Tell Help ≡ asked.Who). absurd cc) (λ (e : asked.Tell Version ≡ asked.Who). absurd cc) is)
 who_name (word ∷ next ∷ []) is = pair_who word next is
-who_name (word ∷ next ∷ third ∷ []) is =
-    first (branch (bytes_eq word (codes "show")) (Some (showing (kind_of next))) (if bytes_eq word (codes "why") then Some (asked_why next third) else None) (Some asked.Who) is)
-  where
-    second : ((bytes_eq word (codes "why") ≡ true) × (Some (asked_why next third) ≡ Some asked.Who)) ⊎ ((bytes_eq word (codes "why") ≡ false) × (None ≡ Some asked.Who))
-        → is_name next ≡ true
-    second (inl w) = absurd (why_no_who next third (same_some (asked_why next third) asked.Who w.1))
-    second (inr w) = absurd (none_some None asked.Who refl w.1)
-
-    first : ((bytes_eq word (codes "show") ≡ true) × (Some (showing (kind_of next)) ≡ Some asked.Who))
-        ⊎ ((bytes_eq word (codes "show") ≡ false) × ((if bytes_eq word (codes "why") then Some (asked_why next third) else None) ≡ Some asked.Who))
-        → is_name next ≡ true
-    first (inl w) = absurd (showing_no_who (kind_of next) (same_some (showing (kind_of next)) asked.Who w.1))
-    first (inr w) = second (branch (bytes_eq word (codes "why")) (Some (asked_why next third)) None (Some asked.Who) w.1)
+who_name (word ∷ next ∷ third ∷ []) is = absurd (triple_no_who word next third is)
 who_name (word ∷ next ∷ third ∷ fourth ∷ words) is = absurd (none_some None asked.Who refl is)

@@ -5,6 +5,7 @@ pub mod Pages
 pub mod OpenedRows
 pub mod Looks
 pub mod Findings
+pub mod Comparisons
 pub mod Headline
 pub mod LookedTexts
 pub mod Steps

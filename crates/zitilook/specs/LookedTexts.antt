@@ -6,6 +6,8 @@ use Rattle.ctrl_model.specs.NameForm.{is_name}
 use Rattle.ctrl_model.specs.State.{State}
 use Rattle.access_reasons.specs.ReasonLines.{lines_of as reason_lines}
 use Rattle.access_reasons.specs.Reasons.{who, why}
+use Rattle.dump_lines.specs.Dumps.{dump_lines}
+use Rattle.network_picture.specs.Pictures.{picture_asked, picture_of}
 use Rattle.record_lines.specs.RecordLines.{lines_asked, lines_of}
 use Rattle.zitilook.specs.declared.telling.Look.{Look}
 use Rattle.zitilook.specs.declared.telling.Look.TheVariants as look
@@ -18,10 +20,14 @@ text_of (look.Lines l) s = lines_of l s
 text_of (look.Line l name) s = lines_asked l name.now s
 text_of (look.Why identity service) s = reason_lines (why s identity.now service.now)
 text_of (look.Who service) s = reason_lines (who s service.now)
+text_of look.Dump s = dump_lines s
+text_of look.Picture s = picture_of s
+text_of (look.PictureOf circuit) s = picture_asked circuit.now s
 
 -- The name by which one record is asked for.
 abbrev pub asked_name : Look → Option (List ℕ)
 asked_name (look.Line l name) = Some name.now
+asked_name (look.PictureOf circuit) = Some circuit.now
 asked_name _ = None
 
 -- What is told of a text that was asked for: where it was asked for by a name and is empty, that none has the name.
@@ -39,3 +45,6 @@ HasNames (look.Lines l) = ⊤
 HasNames (look.Line l name) = ⊤
 HasNames (look.Why identity service) = (is_name identity.now ≡ true) × (is_name service.now ≡ true)
 HasNames (look.Who service) = is_name service.now ≡ true
+HasNames look.Dump = ⊤
+HasNames look.Picture = ⊤
+HasNames (look.PictureOf circuit) = ⊤

@@ -3,7 +3,7 @@ use Rattle.std.specs.Prelude.{ℕ, List, [], ◌++◌, codes, decimal}
 use Rattle.ziti_outside.specs.declared.desk.Part.{Part}
 use Rattle.run_notes.specs.Notes.{file_number}
 use Rattle.zitilook.specs.declared.status.Status.{Status}
-use Rattle.zitilook.specs.declared.status.Status.TheVariants.{Done, Usage, Found, Unknown, WriteFault, DiskFault, Damaged, NoMemory}
+use Rattle.zitilook.specs.declared.status.Status.TheVariants.{Done, Usage, Found, Unknown, Differs, WriteFault, DiskFault, Damaged, NoMemory}
 
 -- A note: what it tells behind the program's name, and a newline.
 abbrev pub note_of : List ℕ → List ℕ
@@ -12,9 +12,10 @@ note_of told = codes "zitilook: " ++ (told ++ codes "\n")
 -- The note of a status that tells nothing else.
 abbrev pub notes_of : Status → List ℕ
 notes_of Done = []
-notes_of Usage = note_of (codes "usage: zitilook list KIND | show KIND NAME | why IDENTITY SERVICE | who SERVICE | doctor | help | version")
+notes_of Usage = note_of (codes "usage: zitilook list KIND | show KIND NAME | why IDENTITY SERVICE | who SERVICE | dump | picture [CIRCUIT] | doctor | diff OTHER | help | version")
 notes_of Found = note_of (codes "something is wrong with the folder")
 notes_of Unknown = []
+notes_of Differs = []
 notes_of WriteFault = note_of (codes "write fault")
 notes_of DiskFault = note_of (codes "disk fault")
 notes_of Damaged = []
@@ -35,3 +36,11 @@ misnamed_note word = codes "zitilook: no name: " ++ (word ++ codes "\n")
 -- The note of a folder that opens to no state: the slot and the place at which it is damaged.
 abbrev pub damaged_note : Part → ℕ → List ℕ
 damaged_note part at = note_of (codes "damaged: file " ++ (decimal (file_number part) ++ (codes " at " ++ decimal at)))
+
+-- The note of another folder on which a call failed.
+abbrev pub other_fault_note : List ℕ
+other_fault_note = note_of (codes "other folder: disk fault")
+
+-- The note of another folder that opens to no state.
+abbrev pub other_damaged_note : Part → ℕ → List ℕ
+other_damaged_note part at = note_of (codes "other folder: damaged: file " ++ (decimal (file_number part) ++ (codes " at " ++ decimal at)))

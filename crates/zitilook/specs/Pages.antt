@@ -11,8 +11,11 @@ page_text Help =
     ++ (codes "show KIND NAME        one of them by its name; terminators and circuits by their numbers\n"
     ++ (codes "why IDENTITY SERVICE  each rule of a circuit of the two, and what meets or fails it\n"
     ++ (codes "who SERVICE           the identities that may dial a service, and the policies that grant it\n"
+    ++ (codes "dump                  lines of the commands that make the like of the folder's state\n"
+    ++ (codes "picture [CIRCUIT]     the network as Mermaid, and in it the way of the circuit of this number\n"
     ++ (codes "doctor                what is wrong with the files of the folder, and the way back\n"
+    ++ (codes "diff OTHER            the changes that lead from its state to that of the folder OTHER, a line each\n"
     ++ (codes "help                  these lines\n"
     ++ (codes "version               the version of the lines\n"
-    ++ codes "KIND is identities, services, routers, links, service-policies, edge-router-policies, service-edge-router-policies, terminators, circuits or intercepts\n")))))))
+    ++ codes "KIND is identities, services, routers, links, service-policies, edge-router-policies, service-edge-router-policies, terminators, circuits or intercepts\n"))))))))))
 page_text Version = codes "zitilook 1\n"

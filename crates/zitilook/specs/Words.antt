@@ -1,5 +1,5 @@
 -- The words of the command line, and what they ask for (docs/FORMATS.md, "The words of zitilook").
-use Rattle.std.specs.Prelude.{ℕ, List, [], ◌∷◌, codes, if◌then◌else◌, not, None, Some}
+use Rattle.std.specs.Prelude.{ℕ, Bool, false, List, [], ◌∷◌, codes, if◌then◌else◌, not, None, Some}
 use Rattle.std.specs.declared.option.Option.{Option}
 use Rattle.std.specs.Str.{bytes_eq}
 use Rattle.ctrl_model.specs.declared.kinds.Kind.TheVariants as kind
@@ -53,7 +53,9 @@ showing (Some l) = asked.Show l
 -- What one word asks for, if it is a line of the table of words.
 abbrev pub asked_alone : List ℕ → Option Asked
 asked_alone word =
-    if bytes_eq word (codes "doctor") then Some asked.Doctor
+    if bytes_eq word (codes "dump") then Some asked.Dump
+    else if bytes_eq word (codes "picture") then Some asked.Picture
+    else if bytes_eq word (codes "doctor") then Some asked.Doctor
     else if bytes_eq word (codes "help") then Some (asked.Tell Help)
     else if bytes_eq word (codes "version") then Some (asked.Tell Version) else None
 
@@ -61,7 +63,8 @@ asked_alone word =
 abbrev pub asked_pair : (word next : List ℕ) → Option Asked
 asked_pair word next =
     if bytes_eq word (codes "list") then Some (listing (kind_of next))
-    else if bytes_eq word (codes "who") then Some (asked_who next) else None
+    else if bytes_eq word (codes "who") then Some (asked_who next)
+    else if bytes_eq word (codes "picture") then Some asked.PictureOf else None
 
 -- What three words ask for, if they are a line of the table of words.
 abbrev pub asked_triple : (word next third : List ℕ) → Option Asked
@@ -82,3 +85,13 @@ abbrev pub word_at : Place → List (List ℕ) → List ℕ
 word_at Second (word ∷ next ∷ words) = next
 word_at Third (word ∷ next ∷ third ∷ words) = third
 word_at _ _ = []
+
+-- Whether the words ask for the changes between two folders: `diff` and the place of the other one.
+abbrev pub is_diff : List (List ℕ) → Bool
+is_diff (word ∷ other ∷ []) = bytes_eq word (codes "diff")
+is_diff words = false
+
+-- The place of the other folder, among all words: the one behind `diff`, and else the working folder.
+abbrev pub other_place : List (List ℕ) → List ℕ
+other_place (program ∷ word ∷ place ∷ []) = if bytes_eq word (codes "diff") then place else codes "."
+other_place words = codes "."

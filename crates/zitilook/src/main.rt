@@ -1,27 +1,31 @@
-//! The program zitilook: the records of a controller's folder as lines, why an identity can or cannot reach a service, and what is wrong with
-//! the folder's files, by reading the folder alone.
+//! The program zitilook: the records of a controller's folder as lines, the commands that make the like of it, a picture of its network,
+//! why an identity can or cannot reach a service, what is wrong with the folder's files, and what another folder has otherwise, by reading
+//! the folders alone.
 #![tactic(auto)]
 
+mod comparing;
 mod examining;
 mod notes;
 mod opening;
 mod pages;
+mod paths;
 mod running;
 mod status;
 mod telling;
 mod words;
 mod worked;
 
-ghost use Rattle.std.specs.Prelude.{◌≡◌, ◌≢◌, [], None, IfOk, IfErr, map, drop};
+ghost use Rattle.std.specs.Prelude.{◌≡◌, ◌≢◌, [], IfOk, IfErr, map, drop};
 ghost use Rattle.std.specs.Process.{exit_status};
 ghost use Rattle.std.specs.IoError.{error_kind};
 ghost use Rattle.std.specs.String.{string_bytes};
-ghost use Rattle.zitilook.specs.Headline.{Runs};
+ghost use Rattle.zitilook.specs.Headline.{RunsBeside};
 ghost use Rattle.zitilook.specs.Statuses.{number_of};
-ghost use Rattle.zitilook.specs.Words.{asked_of};
 
-use crate::running::run;
+use crate::comparing::run_beside;
+use crate::paths::FolderPaths;
 use crate::status::Status;
+use crate::words::other_place;
 use program_words::asked_words;
 use std::alloc::{AllocError, Global};
 use std::io::ErrorKind;
@@ -38,16 +42,21 @@ fn given_words(rt: &HostRuntime) -> io::Result<Vec<String>> {
 
 // Runs on the words that the system gave. Words that are not text are words of no table. Where memory was wanting for the words,
 // nothing is done.
-fn run_given<D: Desk>(alloc: Global, given: io::Result<Vec<String>>, desk: &mut D) -> Status
-    ensures words { IfOk given (λ words. Runs D.tells D.seen D.stopped
-        (map string_bytes (drop 1 words.items)) (asked_of (map string_bytes (drop 1 words.items))) desk.old desk.new result) }
+fn run_given<D: Desk, E: Desk>(
+    alloc: Global,
+    given: io::Result<Vec<String>>,
+    desk: &mut D,
+    other: &mut E,
+) -> Status
+    ensures words { IfOk given (λ words. RunsBeside D.tells D.seen D.stopped E.tells E.seen E.stopped
+        (map string_bytes (drop 1 words.items)) other.old other.new desk.old desk.new result) }
     ensures no_text { IfErr given (λ error. error_kind error ≢ ErrorKind.OutOfMemory
-        → Runs D.tells D.seen D.stopped [] None desk.old desk.new result) }
+        → RunsBeside D.tells D.seen D.stopped E.tells E.seen E.stopped [] other.old other.new desk.old desk.new result) }
     ensures no_memory { IfErr given (λ error. error_kind error ≡ ErrorKind.OutOfMemory
-        → (result ≡ Status.NoMemory) × (desk.new ≡ desk.old)) }
+        → (result ≡ Status.NoMemory) × (desk.new ≡ desk.old) × (other.new ≡ other.old)) }
 {
     match asked_words(alloc, given) {
-        Ok(words) => run(alloc, words.as_slice(), desk),
+        Ok(words) => run_beside(alloc, words.as_slice(), desk, other),
         Err(AllocError) => Status::NoMemory,
     }
 }
@@ -60,22 +69,67 @@ fn exit_code(status: Status) -> ExitCode
 }
 
 // Runs on the words that the system gave, and ends the program as the status of the run says.
-fn ends<D: Desk>(alloc: Global, given: io::Result<Vec<String>>, desk: &mut D) -> ExitCode
-    ensures words { IfOk given (λ words. (status : Status) × Runs D.tells D.seen D.stopped
-        (map string_bytes (drop 1 words.items)) (asked_of (map string_bytes (drop 1 words.items))) desk.old desk.new status × (exit_status result ≡ number_of status)) }
+fn ends<D: Desk, E: Desk>(
+    alloc: Global,
+    given: io::Result<Vec<String>>,
+    desk: &mut D,
+    other: &mut E,
+) -> ExitCode
+    ensures words { IfOk given (λ words. (status : Status) × RunsBeside D.tells D.seen D.stopped E.tells E.seen E.stopped
+        (map string_bytes (drop 1 words.items)) other.old other.new desk.old desk.new status × (exit_status result ≡ number_of status)) }
     ensures no_text { IfErr given (λ error. error_kind error ≢ ErrorKind.OutOfMemory
-        → (status : Status) × Runs D.tells D.seen D.stopped [] None desk.old desk.new status × (exit_status result ≡ number_of status)) }
+        → (status : Status) × RunsBeside D.tells D.seen D.stopped E.tells E.seen E.stopped [] other.old other.new desk.old desk.new status × (exit_status result ≡ number_of status)) }
     ensures no_memory { IfErr given (λ error. error_kind error ≡ ErrorKind.OutOfMemory
-        → (exit_status result ≡ number_of Status.NoMemory) × (desk.new ≡ desk.old)) }
+        → (exit_status result ≡ number_of Status.NoMemory) × (desk.new ≡ desk.old) × (other.new ≡ other.old)) }
 {
-    exit_code(run_given(alloc, given, desk))
+    exit_code(run_given(alloc, given, desk, other))
+}
+
+// Runs on the words that the system gave, over the files of the working folder and of another one at these paths, and ends the program as
+// the status of the run says.
+fn ends_beside(
+    rt: &HostRuntime,
+    given: io::Result<Vec<String>>,
+    folder: &str,
+    zero: &str,
+    one: &str,
+    mark: &str,
+) -> ExitCode {
+    let errors = rt.stderr();
+    let paths = Paths {
+        folder,
+        zero,
+        one,
+        mark,
+    };
+    let mut desk = FileDesk::new(
+        Folder::new(rt, Paths::WORKING_FOLDER),
+        Writes::new(io::writer(rt)),
+        Writes::new(io::writer(&errors)),
+    );
+    let mut other = FileDesk::new(
+        Folder::new(rt, paths),
+        Writes::new(io::writer(&errors)),
+        Writes::new(io::writer(&errors)),
+    );
+    ends(rt.alloc(), given, &mut desk, &mut other)
 }
 
 fn main(rt: HostRuntime) -> ExitCode {
-    let errors = rt.stderr();
-    let said = Writes::new(io::writer(&rt));
-    let notes = Writes::new(io::writer(&errors));
-    let folder = Folder::new(&rt, Paths::WORKING_FOLDER);
-    let mut desk = FileDesk::new(folder, said, notes);
-    ends(rt.alloc(), given_words(&rt), &mut desk)
+    let given = given_words(&rt);
+    let place = match &given {
+        Ok(words) => other_place(words.as_slice()),
+        Err(_) => ".",
+    };
+    let Ok(paths) = FolderPaths::at(rt.alloc(), place) else {
+        return exit_code(Status::NoMemory);
+    };
+    ends_beside(
+        &rt,
+        given,
+        paths.folder.as_str(),
+        paths.zero.as_str(),
+        paths.one.as_str(),
+        paths.mark.as_str(),
+    )
 }

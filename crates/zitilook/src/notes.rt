@@ -1,7 +1,7 @@
 ghost use Rattle.std.specs.Prelude.{◌≡◌, IfOk, decimal, length};
 ghost use Rattle.std.specs.String.{string_bytes};
 ghost use Rattle.run_notes.specs.Notes.{file_number};
-ghost use Rattle.zitilook.specs.Notes.{absent_note, damaged_note, misnamed_note, notes_of, unknown_note};
+ghost use Rattle.zitilook.specs.Notes.{absent_note, damaged_note, misnamed_note, notes_of, other_damaged_note, other_fault_note, unknown_note};
 
 use crate::status::Status;
 use arrayvec::ArrayString;
@@ -15,7 +15,7 @@ pub fn status_note(status: Status) -> &'static [u8]
 {
     match status {
         Status::Usage =>
-            b"zitilook: usage: zitilook list KIND | show KIND NAME | why IDENTITY SERVICE | who SERVICE | doctor | help | version\n",
+            b"zitilook: usage: zitilook list KIND | show KIND NAME | why IDENTITY SERVICE | who SERVICE | dump | picture [CIRCUIT] | doctor | diff OTHER | help | version\n",
         Status::Found => b"zitilook: something is wrong with the folder\n",
         Status::WriteFault => b"zitilook: write fault\n",
         Status::DiskFault => b"zitilook: disk fault\n",
@@ -64,6 +64,27 @@ pub fn damaged_note(part: Part, at: u64) -> ArrayString<64>
     let mut place = Buffer::new();
     let mut line = ArrayString::new();
     line.push_str("zitilook: damaged: file ");
+    line.push_str(file_text(part));
+    line.push_str(" at ");
+    line.push_str(place.format(at));
+    line.push_str("\n");
+    line
+}
+
+/// The note of another folder on which a call failed.
+pub fn other_fault_note() -> &'static [u8]
+    ensures { result.now ≡ other_fault_note }
+{
+    b"zitilook: other folder: disk fault\n"
+}
+
+/// The note of another folder that opens to no state: at most 64 bytes, made without memory.
+pub fn other_damaged_note(part: Part, at: u64) -> ArrayString<80>
+    ensures { result.bytes ≡ other_damaged_note part at }
+{
+    let mut place = Buffer::new();
+    let mut line = ArrayString::new();
+    line.push_str("zitilook: other folder: damaged: file ");
     line.push_str(file_text(part));
     line.push_str(" at ");
     line.push_str(place.format(at));

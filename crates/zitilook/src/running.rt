@@ -22,8 +22,8 @@ use run_notes::note_lines;
 use std::alloc::{AllocError, Global};
 use ziti_outside::{Desk, Failed, Part};
 
-// Notes a status that tells nothing else, and answers it.
-pub(crate) fn end_with<D: Desk>(status: Status, desk: &mut D) -> Status
+/// Notes a status that tells nothing else, and answers it.
+pub fn end_with<D: Desk>(status: Status, desk: &mut D) -> Status
     ensures status { result ≡ status }
     ensures noted { NotesLines (notes_of status) (D.seen desk.old) (D.seen desk.new) }
     ensures others { OnlyNotes D.seen D.stopped desk.old desk.new }
@@ -68,8 +68,8 @@ fn tell_damage<D: Desk>(part: Part, at: u64, desk: &mut D) -> Status
     Status::Damaged
 }
 
-// Notes why the folder was not opened, and answers that status. It wants no memory.
-pub(crate) fn tell_closed<D: Desk>(fault: KeepFault, desk: &mut D) -> Status
+/// Notes why the folder was not opened, and answers that status. It wants no memory.
+pub fn tell_closed<D: Desk>(fault: KeepFault, desk: &mut D) -> Status
     requires { MayClose fault }
     ensures told { TellsClosed fault result (D.seen desk.old) (D.seen desk.new) }
     ensures others { OnlyNotes D.seen D.stopped desk.old desk.new }
@@ -186,6 +186,9 @@ fn run_asked<D: Desk>(alloc: Global, asked: Asked, words: &[String], desk: &mut 
             desk,
         ),
         Asked::Who => run_look(alloc, &Look::Who { service: second }, desk),
+        Asked::Dump => run_look(alloc, &Look::Dump, desk),
+        Asked::Picture => run_look(alloc, &Look::Picture, desk),
+        Asked::PictureOf => run_look(alloc, &Look::PictureOf { circuit: second }, desk),
         Asked::Doctor => run_doctor(alloc, desk),
         Asked::Unknown => tell_refused(unknown_note(alloc, second), desk),
         Asked::Misnamed(place) => {

@@ -12,6 +12,8 @@ pub enum Status {
     Found,
     /// The words name a kind or a record that there is not, or are no names.
     Unknown,
+    /// Two folders differ, and what changes from the one to the other was said.
+    Differs,
     /// The desk failed to take what was said.
     WriteFault,
     /// A call on the disk failed.
@@ -31,7 +33,7 @@ impl Status {
             Status::Done => 0,
             Status::Usage => 1,
             Status::Found => 2,
-            Status::Unknown => 2,
+            Status::Unknown | Status::Differs => 2,
             Status::WriteFault => 5,
             Status::DiskFault => 6,
             Status::Damaged => 7,

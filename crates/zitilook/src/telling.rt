@@ -5,14 +5,18 @@ ghost use Rattle.ctrl_model.specs.ValidState.{ValidState};
 ghost use Rattle.access_reasons.specs.ReasonLines.{lines_of as reason_lines};
 ghost use Rattle.access_reasons.specs.Reasons.{who, why};
 ghost use Rattle.access_reasons.specs.StateStores.{AreStoresOf};
+ghost use Rattle.dump_lines.specs.Dumps.{dump_lines};
+ghost use Rattle.network_picture.specs.Pictures.{picture_asked as asked_picture, picture_of as whole_picture};
 ghost use Rattle.record_lines.specs.RecordLines.{lines_asked, lines_of};
 ghost use Rattle.zitilook.specs.LookedTexts.{HasNames, asked_name, text_of};
 ghost use Rattle.zitilook.specs.OpenedRows.{IsOpened};
 
-use crate::opening::rows_of;
+use crate::opening::rows_opened;
 use access_reasons::{Stores, lines, who, why};
 use ctrl_core::Core;
 use ctrl_model::{Bytes, Format, Name, NameFault, Relation};
+use dump_lines::dump;
+use network_picture::{picture, picture_asked};
 use record_lines::{Listed, list, show};
 use row_codec::Batch;
 use std::alloc::{AllocError, Global};
@@ -28,6 +32,12 @@ pub enum Look<'a> {
     Why { identity: &'a str, service: &'a str },
     /// The lines on who is granted Dial on a service, by its name.
     Who { service: &'a str },
+    /// The lines of the commands that make the like of the state.
+    Dump,
+    /// The picture of the network.
+    Picture,
+    /// That picture with the way of a circuit marked, by its number.
+    PictureOf { circuit: &'a str },
 }
 
 /// The name by which one record is asked for, if one is.
@@ -36,6 +46,7 @@ pub fn asked_name<'a>(look: &Look<'a>) -> Option<&'a str>
 {
     match look {
         Look::Line { name, .. } => Some(name),
+        Look::PictureOf { circuit } => Some(circuit),
         _ => None,
     }
 }
@@ -108,9 +119,7 @@ fn list_of(
     requires { IsOpened core format puts }
     ensures { IfOk result (λ text. text ≡ lines_of listed core.state) }
 {
-    // The core has judged the rows.
-    drop(core);
-    let rows = rows_of(alloc, format, &puts)?;
+    let rows = rows_opened(alloc, core, format, puts)?;
     list(alloc, rows.as_slice(), listed)
 }
 
@@ -126,8 +135,7 @@ fn show_of(
     requires { IsOpened core format puts }
     ensures { IfOk result (λ text. text ≡ lines_asked listed name.now core.state) }
 {
-    drop(core);
-    let rows = rows_of(alloc, format, &puts)?;
+    let rows = rows_opened(alloc, core, format, puts)?;
     show(alloc, rows.as_slice(), listed, name.as_bytes())
 }
 
@@ -155,6 +163,39 @@ fn who_of(alloc: Global, core: Core, service: &str) -> Result<Bytes, AllocError>
     text
 }
 
+// The lines of the commands that make the like of what a folder opened to, which is let go.
+fn dump_of(alloc: Global, core: Core, format: Format, puts: Batch) -> Result<Bytes, AllocError>
+    requires { IsOpened core format puts }
+    ensures { IfOk result (λ text. text ≡ dump_lines core.state) }
+{
+    let rows = rows_opened(alloc, core, format, puts)?;
+    dump(alloc, rows.as_slice())
+}
+
+// The picture of what a folder opened to, which is let go.
+fn picture_of(alloc: Global, core: Core, format: Format, puts: Batch) -> Result<Bytes, AllocError>
+    requires { IsOpened core format puts }
+    ensures { IfOk result (λ text. text ≡ whole_picture core.state) }
+{
+    let rows = rows_opened(alloc, core, format, puts)?;
+    picture(alloc, rows.as_slice())
+}
+
+// The picture of what a folder opened to, which is let go, with the way of a circuit marked.
+fn picture_asked_of(
+    alloc: Global,
+    core: Core,
+    format: Format,
+    puts: Batch,
+    circuit: &str,
+) -> Result<Bytes, AllocError>
+    requires { IsOpened core format puts }
+    ensures { IfOk result (λ text. text ≡ asked_picture circuit.now core.state) }
+{
+    let rows = rows_opened(alloc, core, format, puts)?;
+    picture_asked(alloc, rows.as_slice(), circuit.as_bytes())
+}
+
 /// The text that is asked for of what a folder opened to, which is let go.
 pub fn text_of(
     alloc: Global,
@@ -172,5 +213,8 @@ pub fn text_of(
         Look::Line { listed, name } => show_of(alloc, core, format, puts, *listed, name),
         Look::Why { identity, service } => why_of(alloc, core, identity, service),
         Look::Who { service } => who_of(alloc, core, service),
+        Look::Dump => dump_of(alloc, core, format, puts),
+        Look::Picture => picture_of(alloc, core, format, puts),
+        Look::PictureOf { circuit } => picture_asked_of(alloc, core, format, puts, circuit),
     }
 }

@@ -1,6 +1,6 @@
 ghost use Rattle.std.specs.Prelude.{◌≡◌, map};
 ghost use Rattle.std.specs.String.{string_bytes};
-ghost use Rattle.zitilook.specs.Words.{asked_alone, asked_of, asked_pair, asked_triple, asked_who, asked_why, kind_of, listing, showing, word_at};
+ghost use Rattle.zitilook.specs.Words.{asked_alone, asked_of, asked_pair, asked_triple, asked_who, asked_why, is_diff, kind_of, listing, other_place, showing, word_at};
 
 use ctrl_model::{Kind, Name};
 use record_lines::Listed;
@@ -16,6 +16,12 @@ pub enum Asked {
     Why,
     /// Who is granted Dial on a service, which the second word names.
     Who,
+    /// The lines of the commands that make the like of the state.
+    Dump,
+    /// The picture of the network.
+    Picture,
+    /// That picture with the way of the circuit marked whose number the second word is.
+    PictureOf,
     /// What is wrong with the folder, and the way back.
     Doctor,
     /// The lines of a kind that there is not. The second word is the one that names no kind.
@@ -109,11 +115,13 @@ fn asked_why(identity: &str, service: &str) -> Asked
     }
 }
 
-// What one word asks for: `doctor`, `help` or `version`.
+// What one word asks for: `dump`, `picture`, `doctor`, `help` or `version`.
 fn asked_alone(word: &str) -> Option<Asked>
     ensures { result ≡ asked_alone word.now }
 {
     match word.as_bytes() {
+        name if name == b"dump".as_slice() => Some(Asked::Dump),
+        name if name == b"picture".as_slice() => Some(Asked::Picture),
         name if name == b"doctor".as_slice() => Some(Asked::Doctor),
         name if name == b"help".as_slice() => Some(Asked::Tell(Page::Help)),
         name if name == b"version".as_slice() => Some(Asked::Tell(Page::Version)),
@@ -121,13 +129,14 @@ fn asked_alone(word: &str) -> Option<Asked>
     }
 }
 
-// What two words ask for: `list KIND` or `who SERVICE`.
+// What two words ask for: `list KIND`, `who SERVICE` or `picture CIRCUIT`.
 fn asked_pair(word: &str, next: &str) -> Option<Asked>
     ensures { result ≡ asked_pair word.now next.now }
 {
     match word.as_bytes() {
         name if name == b"list".as_slice() => Some(listing(kind_of(next.as_bytes()))),
         name if name == b"who".as_slice() => Some(asked_who(next)),
+        name if name == b"picture".as_slice() => Some(Asked::PictureOf),
         _ => None,
     }
 }
@@ -144,7 +153,7 @@ fn asked_triple(word: &str, next: &str, third: &str) -> Option<Asked>
 }
 
 /// What the words ask for, if they are a line of the table of words: `list KIND`, `show KIND NAME`, `why IDENTITY SERVICE`,
-/// `who SERVICE`, `doctor`, `help` or `version`.
+/// `who SERVICE`, `dump`, `picture`, `picture CIRCUIT`, `doctor`, `help` or `version`.
 pub fn asked_of(words: &[String]) -> Option<Asked>
     ensures { result ≡ asked_of (map string_bytes words.now) }
 {
@@ -164,5 +173,25 @@ pub fn word_at(place: Place, words: &[String]) -> &str
         (Place::Second, [_, word, ..]) => word.as_str(),
         (Place::Third, [_, _, word, ..]) => word.as_str(),
         _ => "",
+    }
+}
+
+/// Whether the words ask for the changes between two folders: `diff` and the place of the other one.
+pub fn is_diff(words: &[String]) -> bool
+    ensures { result ≡ is_diff (map string_bytes words.now) }
+{
+    match words {
+        [word, _] => word.as_str().as_bytes() == b"diff".as_slice(),
+        _ => false,
+    }
+}
+
+/// The place of the other folder, among all words that the system gave: the one behind `diff`, and else the working folder.
+pub fn other_place(words: &[String]) -> &str
+    ensures { result.now ≡ other_place (map string_bytes words.now) }
+{
+    match words {
+        [_, word, place] if word.as_str().as_bytes() == b"diff".as_slice() => place.as_str(),
+        _ => ".",
     }
 }

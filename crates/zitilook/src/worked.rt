@@ -1,13 +1,13 @@
-ghost use Rattle.std.specs.Prelude.{◌≡◌, [], ◌∷◌, codes, None, Some, Ok, Err};
+ghost use Rattle.std.specs.Prelude.{◌≡◌, true, false, [], ◌∷◌, codes, None, Some, Ok, Err};
 ghost use Rattle.ctrl_model.specs.declared.kinds.Kind.TheVariants as kind;
 ghost use Rattle.ziti_outside.specs.declared.desk.Part.TheVariants.{Zero};
 ghost use Rattle.record_lines.specs.declared.listing.Listed.TheVariants.{Intercepts, Records};
-ghost use Rattle.zitilook.specs.declared.words.Asked.TheVariants.{List as Lists, Show, Why, Who, Doctor, Unknown, Misnamed, Tell};
+ghost use Rattle.zitilook.specs.declared.words.Asked.TheVariants.{List as Lists, Show, Why, Who, Dump, Picture, PictureOf, Doctor, Unknown, Misnamed, Tell};
 ghost use Rattle.zitilook.specs.declared.words.Page.TheVariants.{Help, Version};
 ghost use Rattle.zitilook.specs.declared.words.Place.TheVariants.{Second, Third};
 ghost use Rattle.zitilook.specs.Looks.{found};
-ghost use Rattle.zitilook.specs.Notes.{absent_note, damaged_note, misnamed_note, unknown_note};
-ghost use Rattle.zitilook.specs.Words.{asked_of, word_at};
+ghost use Rattle.zitilook.specs.Notes.{absent_note, damaged_note, misnamed_note, other_damaged_note, unknown_note};
+ghost use Rattle.zitilook.specs.Words.{asked_of, is_diff, other_place, word_at};
 
 /// What words ask for.
 pub fn worked_words()
@@ -31,6 +31,11 @@ pub fn worked_words()
     ensures no_identity { asked_of (codes "why" ∷ codes "a b" ∷ codes "w b" ∷ []) ≡ Some (Misnamed Second) }
     ensures no_service { asked_of (codes "why" ∷ codes "ann" ∷ [] ∷ []) ≡ Some (Misnamed Third) }
     ensures nobody { asked_of (codes "who" ∷ codes "w/b" ∷ []) ≡ Some (Misnamed Second) }
+    ensures dump { asked_of (codes "dump" ∷ []) ≡ Some Dump }
+    ensures dump_of_a_kind { asked_of (codes "dump" ∷ codes "links" ∷ []) ≡ None }
+    ensures picture { asked_of (codes "picture" ∷ []) ≡ Some Picture }
+    ensures picture_of_any_word { asked_of (codes "picture" ∷ codes "ann" ∷ []) ≡ Some PictureOf }
+    ensures picture_of_two { asked_of (codes "picture" ∷ codes "1" ∷ codes "2" ∷ []) ≡ None }
     ensures doctor { asked_of (codes "doctor" ∷ []) ≡ Some Doctor }
     ensures help { asked_of (codes "help" ∷ []) ≡ Some (Tell Help) }
     ensures version { asked_of (codes "version" ∷ []) ≡ Some (Tell Version) }
@@ -51,4 +56,15 @@ pub fn worked_notes()
     ensures third { misnamed_note (word_at Third (codes "why" ∷ codes "ann" ∷ [] ∷ [])) ≡ codes "zitilook: no name: \n" }
     ensures no_word { word_at Third (codes "who" ∷ codes "web" ∷ []) ≡ [] }
     ensures damaged { damaged_note Zero 8 ≡ codes "zitilook: damaged: file 0 at 8\n" }
+{}
+
+/// Words that ask for the changes between two folders, and the place of the other one.
+pub fn worked_diffs()
+    ensures diff { is_diff (codes "diff" ∷ codes "../copy" ∷ []) ≡ true }
+    ensures alone { is_diff (codes "diff" ∷ []) ≡ false }
+    ensures two { is_diff (codes "diff" ∷ codes "a" ∷ codes "b" ∷ []) ≡ false }
+    ensures other_word { is_diff (codes "list" ∷ codes "links" ∷ []) ≡ false }
+    ensures place { other_place (codes "zitilook" ∷ codes "diff" ∷ codes "../copy" ∷ []) ≡ codes "../copy" }
+    ensures no_place { other_place (codes "zitilook" ∷ codes "list" ∷ codes "links" ∷ []) ≡ codes "." }
+    ensures damaged { other_damaged_note Zero 8 ≡ codes "zitilook: other folder: damaged: file 0 at 8\n" }
 {}

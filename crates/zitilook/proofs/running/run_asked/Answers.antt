@@ -5,6 +5,7 @@ use Rattle.zitilook.specs.declared.words.Asked.TheVariants as asked
 use Rattle.zitilook.specs.declared.words.Place.TheVariants.{Second, Third}
 use Rattle.zitilook.specs.Headline.{Runs}
 use Rattle.zitilook.specs.Looks.{FindsNone, Looks, Refuses, found}
+use Rattle.network_picture.specs.Pictures.{picture_asked}
 use Rattle.record_lines.specs.RecordLines.{lines_asked}
 use Rattle.zitilook.specs.Notes.{absent_note, misnamed_note, unknown_note}
 use Rattle.zitilook.specs.Words.{word_at}
@@ -24,6 +25,20 @@ returns-in-Show g c =
       runs = subst (λ (a : Asked). Runs d.tells d.seen d.stopped words (Some a) c.args.desk.now c.run_look-in-Show.new.desk c.run_look-in-Show.result) (sym c.in-Show.is)
           (look_runs d.tells d.seen d.stopped words (asked.Show listed) (λ s. found (absent_note (word_at Third words)) (lines_asked listed (word_at Third words) s))
           c.args.desk.now c.run_look-in-Show.new.desk c.run_look-in-Show.result refl refl looks e.ends);
+    }
+
+pub returns-in-PictureOf : goal.returns-in-PictureOf
+returns-in-PictureOf g c =
+    let d = g.D.Desk in
+    let words = map string_bytes c.args.words.now in
+    let e = c.run_look-in-PictureOf.ensures in
+    let looks = subst (λ (w : List ℕ). FindsNone d.tells (d.seen c.args.desk.now) (d.seen c.run_look-in-PictureOf.new.desk) c.run_look-in-PictureOf.result
+    ⊎ Looks (λ s. found (absent_note w) (picture_asked w s)) d.tells (d.seen c.args.desk.now) (d.seen c.run_look-in-PictureOf.new.desk) c.run_look-in-PictureOf.result)
+    c.word_at-second.ensures e.looks in
+    record {
+      runs = subst (λ (a : Asked). Runs d.tells d.seen d.stopped words (Some a) c.args.desk.now c.run_look-in-PictureOf.new.desk c.run_look-in-PictureOf.result) (sym c.in-PictureOf.is)
+          (look_runs d.tells d.seen d.stopped words asked.PictureOf (λ s. found (absent_note (word_at Second words)) (picture_asked (word_at Second words) s))
+          c.args.desk.now c.run_look-in-PictureOf.new.desk c.run_look-in-PictureOf.result refl refl looks e.ends);
     }
 
 pub returns-in-Unknown : goal.returns-in-Unknown

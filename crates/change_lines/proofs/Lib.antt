@@ -1,0 +1,2 @@
+pub mod RowStates
+pub mod EqualStates

@@ -1,0 +1,4 @@
+pub mod SideBySide
+pub mod ChangeLines
+pub mod RowChanges
+pub mod WorkedChanges

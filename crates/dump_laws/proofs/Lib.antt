@@ -1,0 +1,10 @@
+pub mod RenumberedRows
+pub mod AnsweredCommands
+pub mod MadeEntities
+pub mod MovedRecords
+pub mod FoundNames
+pub mod MadeLinks
+pub mod MadeTerminators
+pub mod MadePolicies
+pub mod MadeIntercepts
+pub mod MadeAgain

@@ -1,0 +1,2 @@
+pub mod AnsweredInTurn
+pub mod NamedCounts

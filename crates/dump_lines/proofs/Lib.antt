@@ -1,0 +1,3 @@
+pub mod FitRows
+pub mod DumpedRows
+pub mod MadeRecords
