@@ -1,6 +1,6 @@
 -- Names of a valid state find the new numbers of their records.
-use Rattle.std.proofs.Common.{◌≡◌, ℕ, ◌+◌, ◌==◌, ◌&&◌, Bool, true, false, cond, not, inl, inr, List, [], ◌∷◌, ◌++◌, is_some, Option, None, Some, refl, sym, ◌∙◌, ap, subst, arith, eq-eqb, bytes_eq}
-use Rattle.std.proofs.lemmas.Bool.{and_parts, and_from, both_ways, cond-true, false_from_ne_true}
+use Rattle.std.proofs.Common.{◌≡◌, ℕ, ◌+◌, ◌==◌, ◌&&◌, Bool, true, false, inl, inr, List, [], ◌∷◌, ◌++◌, is_some, Option, Some, refl, sym, ◌∙◌, ap, subst, arith, eq-eqb, bytes_eq}
+use Rattle.std.proofs.lemmas.Bool.{and_from, both_ways, cond-true, false_from_ne_true}
 use Rattle.std.proofs.lemmas.List.Folds.{list_all-append}
 use Rattle.std.specs.List.{list_all}
 use Rattle.std.specs.Option.{option_map_or}
@@ -9,11 +9,11 @@ use Rattle.ctrl_model.specs.Membership.{Among}
 use Rattle.ctrl_model.specs.Numbered.{at, is_present, first_where, Between}
 use Rattle.ctrl_model.specs.State.{State}
 use Rattle.ctrl_model.specs.Tables.{Record, table, record_name, has_names}
-use Rattle.ctrl_model.specs.ValidState.{ValidState, HaveUniqueNames}
+use Rattle.ctrl_model.specs.ValidState.{ValidState}
 use Rattle.ctrl_model.proofs.DistinctLaws.{same_name}
 use Rattle.ctrl_model.proofs.NumberedLaws.{at-past, at-with_last, by_is_some}
 use Rattle.record_lines.specs.RecordNames.{name_of}
-use Rattle.dump_laws.proofs.RenumberedRows.{renumbered, place, anew, at-place, name-found}
+use Rattle.dump_laws.proofs.RenumberedRows.{renumbered, place, at-place, name-found}
 use Rattle.dump_laws.proofs.MadeEntities.{same}
 
 -- the name of a record finds its new number

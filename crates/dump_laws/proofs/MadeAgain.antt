@@ -1,6 +1,6 @@
 -- The commands of a dump, answered from the start, make the like of the state.
-use Rattle.std.proofs.Common.{◌≡◌, ℕ, ◌+◌, ◌≤◌, ◌==◌, ◌||◌, Bool, true, false, not, cond, inl, inr, List, [], ◌∷◌, ◌++◌, map, flat_map, fold, count_by, Option, None, Some, refl, sym, ◌∙◌, ap, subst, arith, eq-eqb, ne_eqb, bytes_eq}
-use Rattle.std.proofs.lemmas.Bool.{and_parts, cond-true, cond-false}
+use Rattle.std.proofs.Common.{◌≡◌, ℕ, ◌+◌, ◌≤◌, ◌==◌, ◌||◌, Bool, true, false, cond, inl, inr, List, [], ◌∷◌, ◌++◌, map, flat_map, fold, Option, None, Some, refl, sym, ◌∙◌, ap, subst, arith, eq-eqb, ne_eqb, bytes_eq}
+use Rattle.std.proofs.lemmas.Bool.{cond-true, cond-false}
 use Rattle.std.specs.Option.{option_map, option_map_or, unwrap_or}
 use Rattle.ctrl_model.specs.declared.commands.Command.{Command}
 use Rattle.ctrl_model.specs.declared.commands.Command.TheVariants as command
@@ -21,8 +21,8 @@ use Rattle.record_lines.specs.RecordNames.{name_of}
 use Rattle.record_lines.specs.declared.listing.Listed.TheVariants as listed
 use Rattle.dump_lines.specs.Dumps.{section_commands, dump_commands, lending, making_intercept, making_link, making_record, making_terminator, setting}
 use Rattle.dump_laws.proofs.MovedRecords.{moved_intercept, moved_link, moved_terminator}
-use Rattle.dump_laws.specs.NamedCounts.{left_of, right_of, number_of, named_count}
-use Rattle.dump_laws.proofs.RenumberedRows.{behind, renumbered, place, anew, Between-renumbered, at-place, flat_map-renumbered}
+use Rattle.dump_laws.specs.NamedCounts.{number_of, named_count}
+use Rattle.dump_laws.proofs.RenumberedRows.{behind, renumbered, place, Between-renumbered, at-place, flat_map-renumbered}
 use Rattle.dump_laws.proofs.AnsweredCommands.{Leads, leads-by, leads-nowhere, leads-on, leads-through, settled}
 use Rattle.dump_laws.proofs.MadeEntities.{same, with_identities, with_services, with_routers, make_identity, make_service, make_router}
 use Rattle.dump_laws.proofs.MadeLinks.{with_links, make_link, ends_present}

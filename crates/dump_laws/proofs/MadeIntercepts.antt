@@ -1,8 +1,7 @@
 -- The commands of a dump set its intercepts.
-use Rattle.std.proofs.Common.{◌≡◌, ℕ, ◌+◌, ◌<◌, ◌≤◌, ◌&&◌, Bool, true, false, inl, inr, List, [], ◌∷◌, ◌++◌, map, Option, None, Some, refl, sym, ◌∙◌, ap, subst, arith, append-nil}
+use Rattle.std.proofs.Common.{◌≡◌, ℕ, ◌+◌, ◌<◌, ◌≤◌, true, inl, inr, List, [], ◌∷◌, ◌++◌, map, Option, Some, refl, sym, ◌∙◌, ap, subst, arith}
 use Rattle.std.proofs.lemmas.Bool.{and_parts}
 use Rattle.std.proofs.lemmas.List.{map-append}
-use Rattle.std.specs.List.{list_all}
 use Rattle.ctrl_model.specs.declared.commands.Command.TheVariants as command
 use Rattle.ctrl_model.specs.declared.intercepts.Intercept.{Intercept}
 use Rattle.ctrl_model.specs.declared.kinds.Kind.TheVariants as kind
@@ -14,7 +13,7 @@ use Rattle.ctrl_model.specs.Membership.{Among}
 use Rattle.ctrl_model.specs.Numbered.{at, is_present, with_at, Between}
 use Rattle.ctrl_model.specs.Rules.{at_number, unknown_if_absent}
 use Rattle.ctrl_model.specs.Settling.{settle}
-use Rattle.ctrl_model.specs.State.{State, Entity}
+use Rattle.ctrl_model.specs.State.{State}
 use Rattle.ctrl_model.specs.Tables.{named}
 use Rattle.ctrl_model.specs.ValidState.{ValidState, is_valid_intercept}
 use Rattle.ctrl_model.proofs.Members.{Among-append_left, list_all-among}
@@ -47,12 +46,15 @@ ascend : (s : State) → ValidState s → (high low least : ℕ) (pre : List (�
 ascend s v high low least [] x post b there above = tt
 ascend s v high low least (y ∷ pre) x post b there above =
     let later = (at-here high (pre ++ x ∷ post) (y.0 + 1) x b.2 (Among-middle pre x post)).1 in
-    let less = rises s v y.0 x.0 (there y (inl refl)) (there x (inr (Among-middle pre x post))) (omega (arith, later)) in
-    (above y (inl refl), less, ascend s v high (y.0 + 1) (place 1 s.services.rows y.0 + 1) pre x post b.2 (λ z m. there z (inr m)) (λ z m.
-    let m' = Among-append_left pre (x ∷ post) z m in
-    let next = (at-here high (pre ++ x ∷ post) (y.0 + 1) z b.2 m').1 in
-    let l = rises s v y.0 z.0 (there y (inl refl)) (there z (inr m')) (omega (arith, next)) in
-    omega (arith, l)))
+    let less = rises s v y.0 x.0 (there y (inl refl)) (there x (inr (Among-middle pre x post))) (omega (arith, later)) in (
+      above y (inl refl),
+      less,
+      ascend s v high (y.0 + 1) (place 1 s.services.rows y.0 + 1) pre x post b.2 (λ z m. there z (inr m)) (λ z m.
+          let m' = Among-append_left pre (x ∷ post) z m in
+          let next = (at-here high (pre ++ x ∷ post) (y.0 + 1) z b.2 m').1 in
+          let l = rises s v y.0 z.0 (there y (inl refl)) (there z (inr m')) (omega (arith, next)) in
+          omega (arith, l)),
+    )
 
 pub make_intercept : (s : State) → ValidState s → (pre : List (ℕ × Intercept)) (x : ℕ × Intercept) (post : List (ℕ × Intercept)) → pre ++ x ∷ post ≡ s.intercepts
     → Leads (making_intercept s x) (with_intercepts s pre) (with_intercepts s (pre ++ x ∷ []))

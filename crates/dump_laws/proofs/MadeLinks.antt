@@ -1,25 +1,23 @@
 -- The commands of a dump make its links.
-use Rattle.std.proofs.Common.{◌≡◌, ℕ, ◌+◌, ◌==◌, ◌&&◌, ◌||◌, Bool, true, false, cond, not, inl, inr, List, [], ◌∷◌, ◌++◌, is_some, Option, None, Some, refl, sym, ◌∙◌, ap, subst, arith, eq-eqb, bytes_eq}
+use Rattle.std.proofs.Common.{◌≡◌, ℕ, ◌+◌, ◌==◌, ◌&&◌, ◌||◌, Bool, true, false, cond, not, List, [], ◌∷◌, ◌++◌, Option, None, Some, refl, sym, ◌∙◌, ap, subst, arith, eq-eqb, bytes_eq}
 use Rattle.std.proofs.lemmas.Bool.{and_parts, and_from, cond-true, not-true}
 use Rattle.std.specs.List.{list_all}
 use Rattle.std.specs.Option.{option_map_or}
 use Rattle.ctrl_model.specs.CommandForm.{is_link_cost, is_latency}
-use Rattle.ctrl_model.specs.declared.commands.Command.{Command}
 use Rattle.ctrl_model.specs.declared.commands.Command.TheVariants as command
 use Rattle.ctrl_model.specs.declared.kinds.Kind.TheVariants as kind
 use Rattle.ctrl_model.specs.declared.refusals.Field.TheVariants as field
 use Rattle.ctrl_model.specs.declared.refusals.Refusal.TheVariants.{Full, SameRouter}
 use Rattle.ctrl_model.specs.declared.replies.Reply.TheVariants.{Done, Made}
-use Rattle.ctrl_model.specs.Limits.{limit}
 use Rattle.ctrl_model.specs.LinkCommands.{after_create_link, after_report_state, end_named, is_end_of, named_link, refusal_of_create_link, refusal_of_report}
 use Rattle.ctrl_model.specs.Membership.{Among}
 use Rattle.ctrl_model.specs.NameForm.{is_name}
-use Rattle.ctrl_model.specs.Numbered.{Table, no_rows, at, is_present, with_edit, with_new, Between}
+use Rattle.ctrl_model.specs.Numbered.{Table, no_rows, at, is_present, with_new}
 use Rattle.ctrl_model.specs.RecordCommands.{after_create, after_edit}
 use Rattle.ctrl_model.specs.Rules.{or_then, refuse_if, at_number, unknown_if_absent, exists_if_present}
-use Rattle.ctrl_model.specs.Settling.{settle, link_stays}
+use Rattle.ctrl_model.specs.Settling.{settle}
 use Rattle.ctrl_model.specs.State.{State, Router, Link}
-use Rattle.ctrl_model.specs.Tables.{table, named}
+use Rattle.ctrl_model.specs.Tables.{named}
 use Rattle.ctrl_model.specs.ValidState.{ValidState}
 use Rattle.ctrl_model.proofs.DistinctLaws.{same_bytes}
 use Rattle.ctrl_model.proofs.Members.{Among-append_left, list_all-among}

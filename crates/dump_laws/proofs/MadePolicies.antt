@@ -1,5 +1,5 @@
 -- The commands of a dump make its policies.
-use Rattle.std.proofs.Common.{◌≡◌, ℕ, ◌+◌, ◌≤◌, ◌&&◌, Bool, true, false, cond, List, [], ◌∷◌, ◌++◌, length, is_some, Option, None, Some, refl, sym, ◌∙◌, ap, subst, arith, append-nil, append_assoc, bytes_eq}
+use Rattle.std.proofs.Common.{◌≡◌, ℕ, ◌+◌, ◌≤◌, Bool, true, false, cond, List, [], ◌∷◌, ◌++◌, length, is_some, Option, None, Some, refl, sym, ◌∙◌, ap, subst, arith, append-nil, append_assoc, bytes_eq}
 use Rattle.std.proofs.lemmas.Bool.{and_parts, cond-true}
 use Rattle.std.specs.List.{list_all}
 use Rattle.ctrl_model.specs.declared.commands.Command.TheVariants as command
@@ -12,7 +12,7 @@ use Rattle.ctrl_model.specs.declared.refusals.Field.{Field}
 use Rattle.ctrl_model.specs.declared.refusals.Refusal.TheVariants.{UnknownRef}
 use Rattle.ctrl_model.specs.Grants.{same_relation}
 use Rattle.ctrl_model.specs.Numbered.{Table, no_rows, first_where, with_new}
-use Rattle.ctrl_model.specs.RecordCommands.{absent_names, create, first_absent, roles_of}
+use Rattle.ctrl_model.specs.RecordCommands.{create, first_absent, roles_of}
 use Rattle.ctrl_model.specs.Rules.{or_then, attributes_full}
 use Rattle.ctrl_model.specs.Settling.{settle}
 use Rattle.ctrl_model.specs.State.{State, Entity, Router, Policy}

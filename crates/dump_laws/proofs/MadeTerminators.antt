@@ -1,10 +1,9 @@
 -- The commands of a dump make its terminators, each with Bind lent to its host.
-use Rattle.std.proofs.Common.{◌≡◌, ℕ, ◌+◌, ◌<◌, ◌≤◌, ◌==◌, ◌&&◌, ◌||◌, nat_lt, Bool, true, false, cond, not, inl, inr, List, [], ◌∷◌, ◌++◌, length, count_by, is_some, is_none, Option, None, Some, refl, sym, ◌∙◌, ap, subst, arith, eq-eqb, append-nil, bytes_eq}
+use Rattle.std.proofs.Common.{◌≡◌, ℕ, ◌+◌, ◌<◌, ◌≤◌, ◌==◌, ◌&&◌, ◌||◌, nat_lt, Bool, true, false, cond, not, List, [], ◌∷◌, ◌++◌, length, count_by, is_some, is_none, Option, None, Some, refl, sym, ◌∙◌, ap, subst, arith, eq-eqb, append-nil, bytes_eq}
 use Rattle.std.proofs.lemmas.Bool.{and_parts, and_from, cond-true, cond-false, lt-ltb}
 use Rattle.std.specs.List.{list_all}
 use Rattle.std.specs.Option.{option_map, option_map_or}
 use Rattle.ctrl_model.specs.Controller.{policy}
-use Rattle.ctrl_model.specs.declared.commands.Command.{Command}
 use Rattle.ctrl_model.specs.declared.commands.Command.TheVariants as command
 use Rattle.ctrl_model.specs.declared.kinds.Kind.TheVariants as kind
 use Rattle.ctrl_model.specs.declared.kinds.Relation.TheVariants.{Bind}
@@ -13,14 +12,13 @@ use Rattle.ctrl_model.specs.declared.refusals.Field.TheVariants as field
 use Rattle.ctrl_model.specs.declared.refusals.Refusal.TheVariants.{Full, NotBindable, Unknown, UnknownRef}
 use Rattle.ctrl_model.specs.declared.replies.Reply.TheVariants.{Done, Made}
 use Rattle.ctrl_model.specs.Grants.{joins, on_both}
-use Rattle.ctrl_model.specs.Limits.{limit}
 use Rattle.ctrl_model.specs.Membership.{Among}
 use Rattle.ctrl_model.specs.Numbered.{Table, no_rows, at, is_present, with_new, without}
-use Rattle.ctrl_model.specs.RecordCommands.{absent_names, after_create, after_delete, after_remove, first_absent, roles_of}
-use Rattle.ctrl_model.specs.Rules.{or_then, refuse_if, at_number, attributes_full, unknown_if_absent}
+use Rattle.ctrl_model.specs.RecordCommands.{after_create, after_delete, after_remove, roles_of}
+use Rattle.ctrl_model.specs.Rules.{or_then, refuse_if, at_number, unknown_if_absent}
 use Rattle.ctrl_model.specs.Settling.{settle}
-use Rattle.ctrl_model.specs.State.{State, Entity, Router, Link, Policy, Terminator}
-use Rattle.ctrl_model.specs.Tables.{table, named, has_room}
+use Rattle.ctrl_model.specs.State.{State, Entity, Router, Policy, Terminator}
+use Rattle.ctrl_model.specs.Tables.{named}
 use Rattle.ctrl_model.specs.TerminatorCommands.{after_create_terminator, host_number, is_host_absent, lacks_bind, refusal_of_create_terminator}
 use Rattle.ctrl_model.specs.ValidState.{ValidState}
 use Rattle.ctrl_model.proofs.DistinctLaws.{same_bytes}

@@ -1,12 +1,12 @@
 -- Laws on records that are numbered anew: they stay in order, and a name that one of them has alone finds its new number.
-use Rattle.std.proofs.Common.{◌≡◌, ◌≢◌, ℕ, ◌+◌, ◌<◌, ◌≤◌, ◌==◌, nat_lt, Bool, true, false, cond, not, inl, inr, List, [], ◌∷◌, ◌++◌, map, flat_map, length, is_some, Option, None, Some, refl, sym, ◌∙◌, ap, subst, arith, eqb-true, eq-eqb, ne_eqb, bytes_eq}
-use Rattle.std.proofs.lemmas.Bool.{lt-ltb, cond-true, cond-false, both_ways, false≢true, false_from_ne_true}
+use Rattle.std.proofs.Common.{◌≡◌, ℕ, ◌+◌, ◌<◌, ◌≤◌, ◌==◌, nat_lt, Bool, true, false, cond, inl, inr, List, [], ◌∷◌, ◌++◌, flat_map, length, None, Some, refl, sym, ◌∙◌, ap, subst, arith, eqb-true, eq-eqb, ne_eqb, bytes_eq}
+use Rattle.std.proofs.lemmas.Bool.{lt-ltb, cond-true, cond-false, both_ways, false_from_ne_true}
 use Rattle.std.proofs.lemmas.Option.{same_Some, none-some}
 use Rattle.ctrl_model.specs.Membership.{Among}
 use Rattle.ctrl_model.specs.Numbered.{Table, at, first_where, edit_at, with_at, with_new, Between}
 use Rattle.ctrl_model.specs.ValidState.{HaveUniqueNames}
-use Rattle.ctrl_model.proofs.DistinctLaws.{Includes, same_name, same_bytes}
-use Rattle.ctrl_model.proofs.Members.{Among-append_left, by_append}
+use Rattle.ctrl_model.proofs.DistinctLaws.{same_name, same_bytes}
+use Rattle.ctrl_model.proofs.Members.{Among-append_left}
 use Rattle.ctrl_model.proofs.NumberedLaws.{at-within}
 
 -- ---- records under numbers of their own
@@ -74,23 +74,19 @@ at-here high (x ∷ xs) low y b (inr m) =
     let least : low ≤ x.0 = b.0 in
     (cond-false (x.0 == y.0) (Some x.1) (at xs y.0) (ne_eqb x.0 y.0 (λ s. absurd (omega (arith, later, s)))) ∙ h.0, omega (arith, later, least))
 
+pub Among-middle : {X : Type 0} (pre : List X) (x : X) (post : List X) → Among x (pre ++ x ∷ post)
+Among-middle [] x post = inl refl
+Among-middle (z ∷ pre) x post = inr (Among-middle pre x post)
+
 -- those before a record have lesser numbers
 pub earlier : {R : Type 0} (high : ℕ) (pre : List (ℕ × R)) (low : ℕ) (x : ℕ × R) (post : List (ℕ × R)) (y : ℕ × R) → Between low high (pre ++ x ∷ post)
     → Among y pre → y.0 < x.0
 earlier high [] low x post y b m = absurd m
 earlier high (z ∷ pre) low x post y b (inl e) =
-    let h = (at-here high (pre ++ x ∷ post) (z.0 + 1) x b.2 (Among_middle pre x post)).1 in
+    let h = (at-here high (pre ++ x ∷ post) (z.0 + 1) x b.2 (Among-middle pre x post)).1 in
     let same : z.0 ≡ y.0 = ap (λ (w : ℕ × _). w.0) e in
     omega (arith, h, same)
-  where
-    Among_middle : {X : Type 0} (pre : List X) (x : X) (post : List X) → Among x (pre ++ x ∷ post)
-    Among_middle [] x post = inl refl
-    Among_middle (z ∷ pre) x post = inr (Among_middle pre x post)
 earlier high (z ∷ pre) low x post y b (inr m) = earlier high pre (z.0 + 1) x post y b.2 m
-
-pub Among-middle : {X : Type 0} (pre : List X) (x : X) (post : List X) → Among x (pre ++ x ∷ post)
-Among-middle [] x post = inl refl
-Among-middle (z ∷ pre) x post = inr (Among-middle pre x post)
 
 -- their names are others
 pub earlier-differs : {R : Type 0} (name_of : R → List ℕ) (high low : ℕ) (pre : List (ℕ × R)) (x : ℕ × R) (post : List (ℕ × R)) → Between low high (pre ++ x ∷ post)

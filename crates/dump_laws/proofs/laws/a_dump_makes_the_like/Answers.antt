@@ -1,10 +1,10 @@
-use Rattle.std.proofs.Common.{◌≡◌, ℕ, ◌||◌, true, List, sym, ◌∙◌, ap, subst}
-use Rattle.ctrl_model.specs.Numbered.{no_rows, records}
+use Rattle.std.proofs.Common.{◌∙◌, ap}
+use Rattle.ctrl_model.specs.Numbered.{records}
 use Rattle.ctrl_model.specs.State.{State}
 use Rattle.ctrl_model.specs.Tables.{table}
 use Rattle.dump_lines.specs.Dumps.{dump_commands}
 use Rattle.dump_laws.specs.NamedCounts.{named_count}
-use Rattle.dump_laws.proofs.MadeAgain.{all_made, again, same_commands, same_counts, same_records}
+use Rattle.dump_laws.proofs.MadeAgain.{all_made, same_commands, same_counts, same_records}
 use Rattle.dump_laws.proofs.laws.a_dump_makes_the_like.Goals as goal
 
 pub returns : goal.returns
