@@ -121,6 +121,10 @@ fn main(rt: HostRuntime) -> ExitCode {
         Ok(words) => other_place(words.as_slice()),
         Err(_) => ".",
     };
+    if place.as_bytes() == b".".as_slice() {
+        let own = Paths::WORKING_FOLDER;
+        return ends_beside(&rt, given, own.folder, own.zero, own.one, own.mark);
+    }
     let Ok(paths) = FolderPaths::at(rt.alloc(), place) else {
         return exit_code(Status::NoMemory);
     };
