@@ -1,18 +1,22 @@
 """Inputs for the measurements of docs/SPEED.md: lists of (content type, body) and their frames."""
 
 import json
+import os
+import random
+import re
 import struct
 
 MARKER = bytes.fromhex("0306090c")
+HELLO = 0
 CREATE_IDENTITY, UPDATE_IDENTITY, DELETE_IDENTITY = 1000, 1001, 1002
-CREATE_SERVICE = 1010
-CREATE_ROUTER, CONNECT_ROUTER = 1020, 1023
+CREATE_SERVICE, UPDATE_SERVICE = 1010, 1011
+CREATE_ROUTER, UPDATE_ROUTER, CONNECT_ROUTER, DISCONNECT_ROUTER = 1020, 1021, 1023, 1024
 CREATE_SERVICE_POLICY, CREATE_EDGE_ROUTER_POLICY, CREATE_SERVICE_EDGE_ROUTER_POLICY = 1100, 1110, 1120
-DELETE_SERVICE_POLICY = 1102
-CREATE_LINK, REPORT_LATENCY, REPORT_STATE, DELETE_LINK = 1200, 1202, 1203, 1204
-CREATE_TERMINATOR = 1300
-CREATE_CIRCUIT, EXPLAIN, VERIFY_ROUTE = 1400, 1402, 1403
-SHOW_COUNTS = 1502
+UPDATE_SERVICE_POLICY, DELETE_SERVICE_POLICY = 1101, 1102
+CREATE_LINK, SET_LINK_COST, REPORT_LATENCY, REPORT_STATE, DELETE_LINK = 1200, 1201, 1202, 1203, 1204
+CREATE_TERMINATOR, DELETE_TERMINATOR = 1300, 1302
+CREATE_CIRCUIT, DELETE_CIRCUIT, EXPLAIN, VERIFY_ROUTE = 1400, 1401, 1402, 1403
+SHOW_GRANTS, LIST_SERVICES, SHOW_COUNTS, SHOW_CIRCUIT = 1500, 1501, 1502, 1503
 SET_INTERCEPT, PICK, LIST_CLASHES = 1600, 1610, 1611
 
 ROUTERS, LINKS = 256, 4096
@@ -52,13 +56,13 @@ def attributes(count):
     return [named(CREATE_IDENTITY, f"u{i}", attributes=[f"a{(i * 64 + k) % 4096}" for k in range(64)]) for i in range(count)]
 
 
-def updates():
-    """100 identities, 50 services, 500 policies that grant the same pairs, and 10,000 updates that change no grant."""
+def updates(rounds):
+    """100 identities, 50 services, 500 policies that grant the same pairs, and updates that change no grant, by default 10,000."""
     made = [named(CREATE_IDENTITY, f"u{i}", attributes=["a"]) for i in range(1, 101)]
     made += [named(CREATE_SERVICE, f"s{i}", attributes=["b"]) for i in range(1, 51)]
     roles = {"type": "Dial", "semantic": "AnyOf", "identity_roles": ["#a"], "service_roles": ["#b"]}
     made += [named(CREATE_SERVICE_POLICY, f"p{i}", **roles) for i in range(1, 501)]
-    made += [named(UPDATE_IDENTITY, "u1", attributes=["a", "x"] if i % 2 == 0 else ["a"]) for i in range(10_000)]
+    made += [named(UPDATE_IDENTITY, "u1", attributes=["a", "x"] if i % 2 == 0 else ["a"]) for i in range(rounds)]
     return made + [(SHOW_COUNTS, {})]
 
 
@@ -152,15 +156,94 @@ def revocation():
     return ring_circuits(2000) + [named(CREATE_SERVICE_POLICY, "x", **roles), named(DELETE_SERVICE_POLICY, "x")] * 200
 
 
-def full_table():
-    """16,384 circuits, and then 1,000 changes beside them: an identity with grants and no circuit is made and deleted, a link goes down and up
+def full_table(count):
+    """Circuits, 16,384 where the table is to be full, and then 1,000 changes beside them: an identity with grants and no circuit is made and deleted, a link goes down and up
     that no circuit needs, and latencies are reported."""
     changes = []
     for i in range(200):
         changes += [named(CREATE_IDENTITY, "guest"), named(DELETE_IDENTITY, "guest")]
         changes += [(REPORT_STATE, {"link": "spare", "router": "r0", "up": up}) for up in (False, True)]
         changes += [(REPORT_LATENCY, {"link": "l7", "router": "r7", "latency": i})]
-    return ring_circuits(16_384) + [named(CREATE_LINK, "spare", a="r0", b="r8", cost=60_000)] + changes
+    return ring_circuits(count) + [named(CREATE_LINK, "spare", a="r0", b="r8", cost=60_000)] + changes
+
+
+def small_frames(count):
+    """ShowCounts again and again, of the network at the start."""
+    return [(SHOW_COUNTS, {})] * count
+
+
+def example(name):
+    """The commands of examples/NAME.lines."""
+    top = os.path.join(os.path.dirname(os.path.abspath(__file__)), "..")
+    with open(os.path.join(top, "docs", "FORMATS.md"), encoding="utf-8") as file:
+        types = {word: int(number) for number, word in re.findall(r"^\| (\d+) \| (\w+) \|", file.read(), re.M)}
+    with open(os.path.join(top, "examples", name + ".lines"), encoding="utf-8") as file:
+        lines = [line.split() for line in file if line.strip() and not line.startswith("#")]
+    words = [line[1:] if line[0].isdigit() else line for line in lines]
+    return [(types[line[0]], json.loads(" ".join(line[1:]) or "{}")) for line in words]
+
+
+def grown(rand):
+    """A network of 24 routers with 72 links between any two of them, 200 identities, 40 services with a terminator or two, and 50 policies of random attributes."""
+    made = network(24, [tuple(rand.sample(range(24), 2)) for _ in range(72)])
+    made += [named(CREATE_IDENTITY, f"u{i}", attributes=[f"g{rand.randrange(8)}", f"h{rand.randrange(8)}"]) for i in range(200)]
+    made += [named(CREATE_SERVICE, f"s{i}", attributes=[f"c{rand.randrange(4)}"]) for i in range(40)]
+    for i in range(30):
+        made.append(named(CREATE_SERVICE_POLICY, f"d{i}", **dial(rand)))
+    for i in range(10):
+        made.append(named(CREATE_EDGE_ROUTER_POLICY, f"e{i}", semantic="AnyOf", identity_roles=[f"#g{i % 8}"], router_roles=[f"#zone{i % 4}"]))
+        made.append(named(CREATE_SERVICE_EDGE_ROUTER_POLICY, f"f{i}", semantic="AnyOf", service_roles=[f"#c{i % 4}"], router_roles=["#all"]))
+    return made + [offer(rand) for _ in range(60)]
+
+
+def dial(rand):
+    """The roles of a policy that grants Dial to some of the identities of `grown`."""
+    roles = {"identity_roles": [f"#g{rand.randrange(8)}", f"#h{rand.randrange(8)}"], "service_roles": [f"#c{rand.randrange(4)}"]}
+    return {"type": "Dial", "semantic": rand.choice(["AnyOf", "AnyOf", "AllOf"]), **roles}
+
+
+def offer(rand):
+    return CREATE_TERMINATOR, {"service": f"s{rand.randrange(40)}", "router": f"r{rand.randrange(24)}", "cost": rand.randrange(200)}
+
+
+def drawn(rand, at):
+    """A command on the network of `grown`, which is refused by times."""
+    who, what, router, link = f"u{rand.randrange(200)}", f"s{rand.randrange(40)}", f"r{rand.randrange(24)}", rand.randrange(72)
+    end = {"link": f"l{link}", "router": f"r{link % 24}"}
+    asked = {"identity": who, "service": what}
+    return rand.choices([
+        (CREATE_CIRCUIT, asked), (EXPLAIN, asked), (SHOW_GRANTS, {"identity": who}), (LIST_SERVICES, {"identity": who}), (SHOW_COUNTS, {}),
+        (SHOW_CIRCUIT, {"no": rand.randrange(1, 1000)}), (DELETE_CIRCUIT, {"no": rand.randrange(1, 1000)}),
+        named(UPDATE_IDENTITY, who, attributes=[f"g{rand.randrange(8)}", f"h{rand.randrange(8)}"]), named(UPDATE_SERVICE, what, attributes=[f"c{rand.randrange(4)}"]),
+        named(CREATE_IDENTITY, f"n{at}", attributes=[f"g{rand.randrange(8)}"]), named(DELETE_IDENTITY, f"n{rand.randrange(at + 1)}"),
+        named(UPDATE_ROUTER, router, attributes=[f"zone{rand.randrange(4)}"], cost=rand.randrange(9), no_traversal=rand.random() < 0.2),
+        named(CONNECT_ROUTER, router), named(DISCONNECT_ROUTER, router), (SET_LINK_COST, {"link": end["link"], "cost": rand.randrange(1, 99)}),
+        (REPORT_LATENCY, {**end, "latency": rand.randrange(99)}), (REPORT_STATE, {**end, "up": rand.random() < 0.6}), (HELLO, {}),
+        named(UPDATE_SERVICE_POLICY, f"d{rand.randrange(30)}", **dial(rand)), offer(rand), (DELETE_TERMINATOR, {"no": rand.randrange(1, 200)}),
+    ], [30, 6, 4, 4, 2, 4, 4, 4, 2, 3, 2, 2, 8, 2, 3, 4, 6, 1, 1, 2, 1])[0]
+
+
+def mixed(count):
+    """Commands of all families but intercepts on a network of 24 routers and 200 identities, so many of them behind those that make it."""
+    rand = random.Random(48)
+    return grown(rand) + [drawn(rand, at) for at in range(count)]
+
+
+def sessions(count):
+    """A trace: an administrator makes the network of `grown`, and then so many frames come from 24 routers and 200 identities, each in a session of its own."""
+    rand = random.Random(49)
+    opened = [b"\1\0\0\0"] + [bytes([1, 1 + i, 1, len(f"r{i}")]) + f"r{i}".encode() for i in range(24)]
+    opened += [bytes([1, 25 + i, 2, len(f"u{i}")]) + f"u{i}".encode() for i in range(200)]
+    parts = [(0, frames([command])) for command in grown(rand)]
+    for _ in range(count):
+        who, router = rand.randrange(200), rand.randrange(24)
+        asked = {"identity": f"u{who}", "service": f"s{rand.randrange(40)}"}
+        latency = {"link": f"l{rand.randrange(72)}", "router": f"r{router}", "latency": rand.randrange(99)}
+        parts.append(rand.choices([
+            (25 + who, frames([(CREATE_CIRCUIT, asked)])), (25 + who, frames([(LIST_SERVICES, {"identity": f"u{who}"})])),
+            (1 + router, frames([(REPORT_LATENCY, latency)])), (25 + who, frames([(SHOW_COUNTS, {})])),
+        ], [4, 3, 4, 1])[0])
+    return b"".join(opened + [bytes([2, number]) + struct.pack("<H", len(data)) + data for number, data in parts])
 
 
 def explained():
