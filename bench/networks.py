@@ -24,9 +24,11 @@ ROUTERS, LINKS = 256, 4096
 
 def frames(commands):
     """The frames of some commands, one behind the other. The sequence counts from 0."""
-    parts = []
+    parts, known = [], {}
     for sequence, (content, body) in enumerate(commands):
-        text = json.dumps(body, separators=(",", ":"), sort_keys=True).encode()
+        text = known.get(id(body))
+        if text is None:
+            text = known[id(body)] = json.dumps(body, separators=(",", ":"), sort_keys=True).encode()
         parts.append(MARKER + struct.pack("<IIII", content, sequence, 0, len(text)) + text)
     return b"".join(parts)
 
@@ -56,19 +58,19 @@ def attributes(count):
     return [named(CREATE_IDENTITY, f"u{i}", attributes=[f"a{(i * 64 + k) % 4096}" for k in range(64)]) for i in range(count)]
 
 
-def updates(rounds):
-    """100 identities, 50 services, 500 policies that grant the same pairs, and updates that change no grant, by default 10,000."""
+def updates(policies, rounds):
+    """100 identities, 50 services, some policies that grant the same pairs, and updates that change no grant."""
     made = [named(CREATE_IDENTITY, f"u{i}", attributes=["a"]) for i in range(1, 101)]
     made += [named(CREATE_SERVICE, f"s{i}", attributes=["b"]) for i in range(1, 51)]
     roles = {"type": "Dial", "semantic": "AnyOf", "identity_roles": ["#a"], "service_roles": ["#b"]}
-    made += [named(CREATE_SERVICE_POLICY, f"p{i}", **roles) for i in range(1, 501)]
+    made += [named(CREATE_SERVICE_POLICY, f"p{i}", **roles) for i in range(1, policies + 1)]
     made += [named(UPDATE_IDENTITY, "u1", attributes=["a", "x"] if i % 2 == 0 else ["a"]) for i in range(rounds)]
     return made + [(SHOW_COUNTS, {})]
 
 
-def all_to_all():
-    """2,048 identities and 512 services, and one policy of all and all: 1,048,576 pairs."""
-    made = [named(CREATE_IDENTITY, f"u{i}") for i in range(2048)] + [named(CREATE_SERVICE, f"s{i}") for i in range(512)]
+def all_to_all(identities, services):
+    """Identities and services, and one policy of all and all: 1,048,576 pairs at the limits, 2,048 and 512."""
+    made = [named(CREATE_IDENTITY, f"u{i}") for i in range(identities)] + [named(CREATE_SERVICE, f"s{i}") for i in range(services)]
     roles = {"type": "Dial", "semantic": "AnyOf", "identity_roles": ["#all"], "service_roles": ["#all"]}
     return made + [named(CREATE_SERVICE_POLICY, "p", **roles)]
 
@@ -112,21 +114,6 @@ def mesh_circuits(count):
     return made + [(CREATE_CIRCUIT, request(i * 29 % ROUTERS)) for i in range(count)]
 
 
-def mesh_full():
-    """16,384 circuits over the mesh, and then 1,000 reports of a latency."""
-    reports = [(REPORT_LATENCY, {"link": "l7", "router": "r7", "latency": i % 1000}) for i in range(1000)]
-    return mesh_circuits(16_384) + reports
-
-
-def mesh_losses():
-    """16,384 circuits over the mesh, and then 1,000 times an identity and a link that no circuit needs are made and deleted: each deletion looks at every circuit."""
-    losses = []
-    for _ in range(1000):
-        losses += [named(CREATE_IDENTITY, "guest"), named(DELETE_IDENTITY, "guest")]
-        losses += [(DELETE_LINK, {"link": "l4095"}), named(CREATE_LINK, "l4095", a="r255", b="r15", cost=60_000)]
-    return mesh_circuits(16_384) + losses
-
-
 def line_circuits():
     """A line of 256 routers, 300 circuits over all of it, and then 100 reports of a latency."""
     made = network(ROUTERS, [(i, i + 1) for i in range(ROUTERS - 1)]) + granted() + [terminator(ROUTERS - 1)]
@@ -134,11 +121,11 @@ def line_circuits():
     return made + [(REPORT_LATENCY, {"link": "l7", "router": "r7", "latency": i}) for i in range(100)]
 
 
-def ring_moves():
-    """A ring of 256 routers, 300 circuits halfway round it, and 100 times a link of the way that they go down and up again: each time all go the other way round."""
+def ring_moves(rounds):
+    """A ring of 256 routers, 300 circuits halfway round it, and so many times a link of the way that they go down and up again: each time all go the other way round."""
     made = network(ROUTERS, [(i, (i + 1) % ROUTERS) for i in range(ROUTERS)]) + granted() + [terminator(ROUTERS // 2)]
     made += [(CREATE_CIRCUIT, request(0)) for _ in range(300)]
-    for i in range(100):
+    for i in range(rounds):
         link = {"link": ("l7", "l200")[i % 2], "router": ("r7", "r200")[i % 2]}
         made += [(REPORT_STATE, {**link, "up": False}), (REPORT_STATE, {**link, "up": True})]
     return made
@@ -165,6 +152,36 @@ def full_table(count):
         changes += [(REPORT_STATE, {"link": "spare", "router": "r0", "up": up}) for up in (False, True)]
         changes += [(REPORT_LATENCY, {"link": "l7", "router": "r7", "latency": i})]
     return ring_circuits(count) + [named(CREATE_LINK, "spare", a="r0", b="r8", cost=60_000)] + changes
+
+
+def everything(policies):
+    """2,048 identities, 512 services and 256 routers, and some policies of all and all of each of the four relations in turn, without and with Bind."""
+    made = [named(CREATE_IDENTITY, f"u{i}") for i in range(2048)] + [named(CREATE_SERVICE, f"s{i}") for i in range(512)]
+    made += [named(CREATE_ROUTER, f"r{i}") for i in range(256)]
+    return made + [everyone(i) for i in range(policies)]
+
+
+def everyone(i):
+    """A policy of all and all, of another relation in turn."""
+    both = {"semantic": "AnyOf", "identity_roles": ["#all"], "service_roles": ["#all"]}
+    routers = {"semantic": "AnyOf", "router_roles": ["#all"]}
+    return [
+        named(CREATE_SERVICE_POLICY, f"p{i}", type="Dial", **both), named(CREATE_SERVICE_POLICY, f"p{i}", type="Bind", **both),
+        named(CREATE_EDGE_ROUTER_POLICY, f"p{i}", identity_roles=["#all"], **routers), named(CREATE_SERVICE_EDGE_ROUTER_POLICY, f"p{i}", service_roles=["#all"], **routers),
+    ][i % 4]
+
+
+def at_limits(size):
+    """As many bytes of legal input at most: all entities and one policy of each relation, all links and terminators, then circuits, and at the end the policies deleted."""
+    made = everything(4) + [named(CONNECT_ROUTER, f"r{i}") for i in range(ROUTERS)]
+    made += [named(CREATE_LINK, f"l{i}", a=f"r{i % 256}", b=f"r{(i + 1 + i // 256) % 256}") for i in range(4096)]
+    made += [(CREATE_TERMINATOR, {"service": f"s{i % 512}", "router": f"r{i % 256}"}) for i in range(4096)]
+    ends = [named(DELETE_SERVICE_POLICY, "p1"), named(DELETE_SERVICE_POLICY, "p0")]
+    left = size - len(frames(made + ends))
+    asked = [(CREATE_CIRCUIT, {"identity": f"u{i % 2048}", "service": f"s{i % 512}", "ingress": f"r{i % 256}"}) for i in range(16_384)]
+    while len(frames(asked)) > left:
+        asked = asked[:len(asked) * left // len(frames(asked)) - 1]
+    return made + asked + ends
 
 
 def small_frames(count):

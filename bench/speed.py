@@ -1,8 +1,9 @@
-"""Measures the built program, and one beside it, on the inputs of docs/SPEED.md: `python3 speed.py [--instructions] PROGRAM [--beside PLAIN] [NAME..]`.
+"""Measures the built program, and one beside it, on the inputs of docs/SPEED.md: `python3 speed.py [--instructions FOLDER] PROGRAM [--beside PLAIN] [NAME..]`.
 
 Each program answers each input in one run, under `dry` where the row of INPUTS names no other words. A row of the table that is printed has the commands, and of each
-program the processor seconds and the most memory that was resident, or with --instructions the instructions by callgrind, of smaller inputs where a row says so. What
-the two said must be the same bytes. The last line has the geometric mean of the ratios; what only the first program keeps in a folder is left out of it."""
+program the processor seconds and the most memory that was resident in MiB, or with --instructions the millions of instructions by callgrind, of smaller inputs where
+INPUTS has one; FOLDER then has the profiles. What the two said must be the same bytes. The last cell is the ratio, and the last line the geometric mean of the ratios;
+what the first program alone keeps in a folder is left out of it."""
 
 import json
 import math
@@ -15,7 +16,9 @@ import tempfile
 
 import networks
 
-LIMIT = 1800
+LIMIT = 3600
+# What takes less seconds is measured by the least of so many runs.
+SHORT, RUNS = 0.3, 5
 
 
 def run(program, words, data, ahead=()):
@@ -29,15 +32,22 @@ def run(program, words, data, ahead=()):
     return done, took
 
 
-def weighed(program, words, data):
-    """What a run said, its processor seconds, and the most memory that was resident, in MiB."""
+def weighed(program, words, data, _):
+    """What a run said, its processor seconds less those of a run that reads nothing, and the most memory that was resident, in MiB."""
     done, took = run(program, words, data, ("/usr/bin/time", "-f", "%M"))
+    if took < SHORT:
+        took = least(program, words, data) - least(program, ["dry"], b"")
     return done.stdout, took, int(done.stderr.split()[-1]) / 1024
 
 
-def counted(program, words, data):
+def least(program, words, data):
+    """The least processor seconds of some runs."""
+    return min(run(program, words, data)[1] for _ in range(RUNS))
+
+
+def counted(program, words, data, profile):
     """What a run said, and its instructions in millions, by callgrind."""
-    done, _ = run(program, words, data, ("valgrind", "--tool=callgrind", "--callgrind-out-file=/dev/null"))
+    done, _ = run(program, words, data, ("valgrind", "--tool=callgrind", f"--callgrind-out-file={profile}"))
     return done.stdout, int(re.search(rb"Collected : (\d+)", done.stderr)[1]) / 1e6
 
 
@@ -49,23 +59,22 @@ def claims(program):
 
 # Each input, and a smaller one where instructions are counted.
 INPUTS = {
-    "all_to_all": (lambda _: networks.all_to_all(),),
-    "updates": (lambda _: networks.updates(10_000),),
-    "churn": (lambda _: networks.churn(100_000), lambda _: networks.churn(10_000)),
-    "attributes": (lambda _: networks.attributes(1000),),
-    "full_table": (lambda _: networks.full_table(16_384),),
+    "all_to_all": (lambda _: networks.all_to_all(2048, 512), lambda _: networks.all_to_all(512, 128)),
+    "updates": (lambda _: networks.updates(500, 10_000), lambda _: networks.updates(50, 1000)),
+    "churn": (lambda _: networks.churn(100_000), lambda _: networks.churn(1000)),
+    "attributes": (lambda _: networks.attributes(1000), lambda _: networks.attributes(250)),
+    "full_table": (lambda _: networks.full_table(16_384), lambda _: networks.full_table(1024)),
     "revocation": (lambda _: networks.revocation(),),
     "mesh": (lambda _: networks.mesh(),),
-    "mesh_circuits": (lambda _: networks.mesh_circuits(1000),),
-    "mesh_full": (lambda _: networks.mesh_full(), lambda _: networks.mesh_circuits(2000)),
+    "mesh_circuits": (lambda _: networks.mesh_circuits(1000), lambda _: networks.mesh_circuits(50)),
     "line_circuits": (lambda _: networks.line_circuits(),),
-    "ring_moves": (lambda _: networks.ring_moves(),),
+    "ring_moves": (lambda _: networks.ring_moves(100), lambda _: networks.ring_moves(5)),
     "claims": (claims,),
-    "mixed": (lambda _: networks.mixed(5000),),
-    "small_frames": (lambda _: networks.small_frames(1_000_000), lambda _: networks.small_frames(100_000)),
+    "mixed": (lambda _: networks.mixed(5000), lambda _: networks.mixed(500)),
+    "small_frames": (lambda _: networks.small_frames(1_000_000), lambda _: networks.small_frames(5000)),
     "realistic": (lambda _: networks.example("realistic"),),
     "load": (lambda _: None,),
-    "sessions": (lambda _: networks.sessions(5000),),
+    "sessions": (lambda _: networks.sessions(5000), lambda _: networks.sessions(300)),
 }
 # Those of which the programs do not do the same, so that no ratio of them counts.
 UNLIKE = ("sessions",)
@@ -81,14 +90,14 @@ def asked(name, program, counts):
     return ["dry"], ["dry"], networks.frames(made), len(made)
 
 
-def measured(name, program, beside, counts):
+def measured(name, program, beside, profiles):
     """The cells of an input's row, and the ratio of the two programs."""
-    words, plain_words, data, commands = asked(name, program, counts)
-    measure = counted if counts else weighed
-    said, *ours = measure(program, words, data)
+    words, plain_words, data, commands = asked(name, program, profiles is not None)
+    measure = weighed if profiles is None else counted
+    said, *ours = measure(program, words, data, f"{profiles}/{name}.program")
     if beside is None:
         return [commands, *ours], None
-    plainly, *plain = measure(beside, plain_words, data)
+    plainly, *plain = measure(beside, plain_words, data, f"{profiles}/{name}.beside")
     assert said == plainly, f"{name}: the two programs do not say the same"
     return [commands, *ours, *plain, ours[0] / plain[0]], ours[0] / plain[0]
 
@@ -97,14 +106,21 @@ def spelled(cell):
     return str(cell) if isinstance(cell, int) else f"{cell:.3f}" if cell < 1 else f"{cell:.1f}" if cell < 100 else f"{cell:,.0f}"
 
 
+def taken(words, option):
+    """The path behind an option, if it is there; both are taken out of the words."""
+    if option not in words:
+        return None
+    at = words.index(option)
+    words.pop(at)
+    return os.path.abspath(words.pop(at))
+
+
 def main(words):
-    counts = "--instructions" in words
-    words = [it for it in words if it != "--instructions"]
-    beside = os.path.abspath(words.pop(words.index("--beside") + 1)) if "--beside" in words else None
-    program, *names = [it for it in words if it != "--beside"]
+    profiles, beside = taken(words, "--instructions"), taken(words, "--beside")
+    program, *names = words
     ratios = []
     for name in names or INPUTS:
-        cells, ratio = measured(name, os.path.abspath(program), beside, counts)
+        cells, ratio = measured(name, os.path.abspath(program), beside, profiles)
         print(f"| {name} | " + " | ".join(map(spelled, cells)) + " |", flush=True)
         if ratio is not None and name not in UNLIKE:
             ratios.append(ratio)
