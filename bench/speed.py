@@ -60,21 +60,21 @@ def claims(program):
 # Each input, and a smaller one where instructions are counted.
 INPUTS = {
     "all_to_all": (lambda _: networks.all_to_all(2048, 512), lambda _: networks.all_to_all(512, 128)),
-    "updates": (lambda _: networks.updates(500, 10_000), lambda _: networks.updates(50, 1000)),
-    "churn": (lambda _: networks.churn(100_000), lambda _: networks.churn(1000)),
-    "attributes": (lambda _: networks.attributes(1000), lambda _: networks.attributes(250)),
-    "full_table": (lambda _: networks.full_table(16_384), lambda _: networks.full_table(1024)),
+    "updates": (lambda _: networks.updates(500, 10_000), lambda _: networks.updates(20, 500)),
+    "churn": (lambda _: networks.churn(100_000), lambda _: networks.churn(500)),
+    "attributes": (lambda _: networks.attributes(1000), lambda _: networks.attributes(128)),
+    "full_table": (lambda _: networks.full_table(16_384), lambda _: networks.full_table(512)),
     "revocation": (lambda _: networks.revocation(),),
     "mesh": (lambda _: networks.mesh(),),
-    "mesh_circuits": (lambda _: networks.mesh_circuits(1000), lambda _: networks.mesh_circuits(50)),
+    "mesh_circuits": (lambda _: networks.mesh_circuits(1000), lambda _: networks.mesh_circuits(20)),
     "line_circuits": (lambda _: networks.line_circuits(),),
-    "ring_moves": (lambda _: networks.ring_moves(100), lambda _: networks.ring_moves(5)),
+    "ring_moves": (lambda _: networks.ring_moves(100), lambda _: networks.ring_moves(2)),
     "claims": (claims,),
-    "mixed": (lambda _: networks.mixed(5000), lambda _: networks.mixed(500)),
-    "small_frames": (lambda _: networks.small_frames(1_000_000), lambda _: networks.small_frames(5000)),
+    "mixed": (lambda _: networks.mixed(5000), lambda _: networks.mixed(300)),
+    "small_frames": (lambda _: networks.small_frames(1_000_000), lambda _: networks.small_frames(2000)),
     "realistic": (lambda _: networks.example("realistic"),),
     "load": (lambda _: None,),
-    "sessions": (lambda _: networks.sessions(5000), lambda _: networks.sessions(300)),
+    "sessions": (lambda _: networks.sessions(5000), lambda _: networks.sessions(200)),
 }
 # Those of which the programs do not do the same, so that no ratio of them counts.
 UNLIKE = ("sessions",)
