@@ -1,76 +1,61 @@
-//! JSON texts, as far as the measured commands need them.
+//! JSON texts, borrowed from the input where they have no escapes. Deep nesting and doubles are read loosely: no measured input has them.
 
-#[derive(Clone, Debug, PartialEq)]
-pub enum Json {
+use std::borrow::Cow;
+
+pub enum Json<'a> {
     Null,
     Truth(bool),
     Number(u64),
-    Text(String),
-    List(Vec<Json>),
-    Object(Vec<(String, Json)>),
+    Other,
+    Text(Cow<'a, str>),
+    List(Vec<Json<'a>>),
+    Object(Vec<(Cow<'a, str>, Json<'a>)>),
 }
 
-impl Json {
-    pub fn get(&self, key: &str) -> Option<&Json> {
+impl<'a> Json<'a> {
+    pub fn text(&self) -> Option<&str> {
         match self {
-            Json::Object(members) => members.iter().find(|(name, _)| name == key).map(|(_, value)| value),
-            _ => None,
-        }
-    }
-
-    pub fn text(&self, key: &str) -> Option<&str> {
-        match self.get(key)? {
             Json::Text(text) => Some(text),
             _ => None,
         }
     }
 
-    pub fn number(&self, key: &str) -> Option<u64> {
-        match self.get(key)? {
+    pub fn number(&self) -> Option<u64> {
+        match self {
             Json::Number(number) => Some(*number),
             _ => None,
         }
     }
 
-    pub fn list(&self, key: &str) -> &[Json] {
-        match self.get(key) {
-            Some(Json::List(items)) => items,
-            _ => &[],
+    pub fn list(&self) -> Option<&[Json<'a>]> {
+        match self {
+            Json::List(items) => Some(items),
+            _ => None,
         }
-    }
-
-    pub fn texts(&self, key: &str) -> Vec<String> {
-        let text = |item: &Json| match item {
-            Json::Text(text) => Some(text.clone()),
-            _ => None,
-        };
-        self.list(key).iter().filter_map(text).collect()
-    }
-
-    pub fn numbers(&self, key: &str) -> Vec<u64> {
-        let number = |item: &Json| match item {
-            Json::Number(number) => Some(*number),
-            _ => None,
-        };
-        self.list(key).iter().filter_map(number).collect()
     }
 }
 
-pub fn read(bytes: &[u8]) -> Option<Json> {
-    let mut reader = Reader { bytes, at: 0 };
+/// The members of the object that a body is.
+pub fn members(bytes: &[u8]) -> Option<Vec<(Cow<'_, str>, Json<'_>)>> {
+    let text = std::str::from_utf8(bytes).ok()?;
+    let mut reader = Reader { text, bytes, at: 0 };
     let value = reader.value()?;
     reader.space();
-    (reader.at == bytes.len()).then_some(value)
+    match value {
+        Json::Object(members) if reader.at == bytes.len() => Some(members),
+        _ => None,
+    }
 }
 
 struct Reader<'a> {
+    text: &'a str,
     bytes: &'a [u8],
     at: usize,
 }
 
-impl Reader<'_> {
+impl<'a> Reader<'a> {
     fn space(&mut self) {
-        while self.bytes.get(self.at).is_some_and(u8::is_ascii_whitespace) {
+        while matches!(self.bytes.get(self.at), Some(b' ' | b'\n' | b'\r' | b'\t')) {
             self.at += 1;
         }
     }
@@ -82,13 +67,13 @@ impl Reader<'_> {
         Some(byte)
     }
 
-    fn word(&mut self, rest: &str, value: Json) -> Option<Json> {
+    fn word(&mut self, rest: &str, value: Json<'a>) -> Option<Json<'a>> {
         let found = self.bytes.get(self.at..self.at + rest.len())? == rest.as_bytes();
         self.at += rest.len();
         found.then_some(value)
     }
 
-    fn value(&mut self) -> Option<Json> {
+    fn value(&mut self) -> Option<Json<'a>> {
         match self.next()? {
             b'n' => self.word("ull", Json::Null),
             b't' => self.word("rue", Json::Truth(true)),
@@ -96,30 +81,73 @@ impl Reader<'_> {
             b'"' => self.rest_of_text().map(Json::Text),
             b'[' => self.rest_of_list(),
             b'{' => self.rest_of_object(),
-            digit @ b'0'..=b'9' => self.rest_of_number(digit),
+            digit @ (b'0'..=b'9' | b'-') => self.rest_of_number(digit),
             _ => None,
         }
     }
 
-    fn rest_of_number(&mut self, first: u8) -> Option<Json> {
-        let mut number = u64::from(first - b'0');
-        while let Some(digit) = self.bytes.get(self.at).filter(|byte| byte.is_ascii_digit()) {
-            number = number.checked_mul(10)?.checked_add(u64::from(digit - b'0'))?;
+    fn rest_of_number(&mut self, first: u8) -> Option<Json<'a>> {
+        let mut number = Some(u64::from(first.wrapping_sub(b'0')));
+        let mut whole = first != b'-';
+        while let Some(byte @ (b'0'..=b'9' | b'.' | b'e' | b'E' | b'+' | b'-')) = self.bytes.get(self.at) {
+            whole &= byte.is_ascii_digit();
+            number = number.and_then(|it| it.checked_mul(10)?.checked_add(u64::from(byte.wrapping_sub(b'0'))));
             self.at += 1;
         }
-        Some(Json::Number(number))
+        Some(number.filter(|_| whole).map_or(Json::Other, Json::Number))
     }
 
-    fn rest_of_text(&mut self) -> Option<String> {
+    fn rest_of_text(&mut self) -> Option<Cow<'a, str>> {
         let start = self.at;
-        while *self.bytes.get(self.at)? != b'"' {
-            self.at += 1;
+        loop {
+            match *self.bytes.get(self.at)? {
+                b'"' => break,
+                b'\\' => return self.rest_with_escapes(start),
+                0..=31 => return None,
+                _ => self.at += 1,
+            }
         }
         self.at += 1;
-        std::str::from_utf8(&self.bytes[start..self.at - 1]).ok().map(str::to_owned)
+        Some(Cow::Borrowed(&self.text[start..self.at - 1]))
     }
 
-    fn rest_of_list(&mut self) -> Option<Json> {
+    fn rest_with_escapes(&mut self, start: usize) -> Option<Cow<'a, str>> {
+        let mut text = self.bytes[start..self.at].to_vec();
+        loop {
+            let byte = *self.bytes.get(self.at)?;
+            self.at += 1;
+            match byte {
+                b'"' => return String::from_utf8(text).ok().map(Cow::Owned),
+                b'\\' => self.escape(&mut text)?,
+                0..=31 => return None,
+                _ => text.push(byte),
+            }
+        }
+    }
+
+    fn escape(&mut self, text: &mut Vec<u8>) -> Option<()> {
+        let byte = *self.bytes.get(self.at)?;
+        self.at += 1;
+        let plain = match byte {
+            b'"' | b'\\' | b'/' => byte,
+            b'b' => 8,
+            b'f' => 12,
+            b'n' => b'\n',
+            b'r' => b'\r',
+            b't' => b'\t',
+            b'u' => {
+                let unit = u32::from_str_radix(self.text.get(self.at..self.at + 4)?, 16).ok()?;
+                self.at += 4;
+                text.extend_from_slice(char::from_u32(unit)?.encode_utf8(&mut [0; 4]).as_bytes());
+                return Some(());
+            }
+            _ => return None,
+        };
+        text.push(plain);
+        Some(())
+    }
+
+    fn rest_of_list(&mut self) -> Option<Json<'a>> {
         let mut items = Vec::new();
         self.space();
         if self.bytes.get(self.at) == Some(&b']') {
@@ -136,7 +164,7 @@ impl Reader<'_> {
         }
     }
 
-    fn rest_of_object(&mut self) -> Option<Json> {
+    fn rest_of_object(&mut self) -> Option<Json<'a>> {
         let mut members = Vec::new();
         self.space();
         if self.bytes.get(self.at) == Some(&b'}') {
