@@ -13,7 +13,7 @@ returns-in-Ok-clause-says g c = λ f s left.
       other_state = t;
       valid = c.in-Ok.ensures.valid;
       opens = c.in-Ok.ensures.opens;
-      says = c.say_between.ensures.says f c.in-Ok.read.1 s t left c.rows_opened-right.ensures;
+      says = c.say_between.ensures.says f c.in-Ok.read.1 s t left c.rows_opened-right.ensures.rows;
     })
 
 pub returns-in-Ok-clause-ends : goal.returns-in-Ok-clause-ends
@@ -35,4 +35,4 @@ returns-in-Err-clause-ends g c =
 
 pub say_between-requires-clause-right : goal.say_between-requires-clause-right
 say_between-requires-clause-right g c =
-    IfOk-weaker c.rows_opened-right.result _ _ (λ rows are. (c.in-Ok.read.1, c.in-Ok.read.0.state, are)) c.rows_opened-right.ensures
+    IfOk-weaker c.rows_opened-right.result _ _ (λ rows are. (c.in-Ok.read.1, c.in-Ok.read.0.state, are)) c.rows_opened-right.ensures.rows

@@ -17,14 +17,14 @@ returns-in-Ok g c =
         valid = c.in-Ok.ensures.valid;
         opens = c.in-Ok.ensures.opens;
         compares = compared_from s g.E.Desk.tells c.compare_read.result (g.E.Desk.seen c.args.other.now) (g.D.Desk.seen c.args.desk.now) (g.D.Desk.seen c.peek_rows.new.desk) (g.D.Desk.seen c.compare_read.new.desk)
-            o.replies o.notes o.failed_notes (c.compare_read.ensures.says c.in-Ok.read.1 s c.rows_opened-left.ensures);
+            o.replies o.notes o.failed_notes (c.compare_read.ensures.says c.in-Ok.read.1 s c.rows_opened-left.ensures.rows);
       });
       ends = read_beside g.D.Desk.seen g.D.Desk.stopped g.E.Desk.seen g.E.Desk.stopped c.args.other.now c.compare_read.new.other c.args.desk.now c.peek_rows.new.desk c.compare_read.new.desk c.compare_read.result
           c.peek_rows.ensures.reads c.in-Ok.ensures.cause.calm c.compare_read.ensures.ends;
     }
 
 pub compare_read-requires : goal.compare_read-requires
-compare_read-requires g c = IfOk-weaker c.rows_opened-left.result _ _ (λ rows are. (c.in-Ok.read.1, c.in-Ok.read.0.state, are)) c.rows_opened-left.ensures
+compare_read-requires g c = IfOk-weaker c.rows_opened-left.result _ _ (λ rows are. (c.in-Ok.read.1, c.in-Ok.read.0.state, are)) c.rows_opened-left.ensures.rows
 
 pub returns-in-Err : goal.returns-in-Err
 returns-in-Err g c =
