@@ -7,5 +7,5 @@ use Rattle.zitilook.proofs.telling.dump_of.Goals as goal
 
 pub dump-requires : goal.dump-requires
 dump-requires c =
-    subst (λ (rows : List Row). ValidState (state_in rows)) (sym c.as_slice.ensures)
+    subst (λ (rows : List Row). ValidState (state_in rows)) (sym c.as_slice.ensures.value)
     (subst (λ (s : State). ValidState s) (sym c.in_ok-rows.ensures.state) c.requires.those.valid)
