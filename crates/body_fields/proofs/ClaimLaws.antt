@@ -13,7 +13,7 @@ use Rattle.serde_json.specs.declared.value.Value.{Value}
 use Rattle.ctrl_model.specs.Words.{word_of}
 use Rattle.ctrl_model.specs.declared.claims.Reach.{Reach}
 use Rattle.ctrl_model.specs.declared.refusals.Field.TheVariants as field
-use Rattle.ctrl_model.specs.CommandForm.{is_number, is_value, is_reach, are_numbers}
+use Rattle.ctrl_model.specs.ValueForms.{is_number, is_value, is_reach, are_numbers}
 use Rattle.json_body.specs.FieldKinds.{as_number_in}
 use Rattle.body_fields.specs.FieldValues.{as_no}
 use Rattle.body_fields.specs.ItemLists.{as_each_of}

@@ -8,7 +8,7 @@ use Rattle.std.proofs.lemmas.Option.{cond_some, option_and_then_some}
 use Rattle.serde_json.specs.Data.{Data}
 use Rattle.serde_json.specs.Find.{as_number, as_u64}
 use Rattle.ctrl_model.specs.declared.refusals.Field.{Field}
-use Rattle.ctrl_model.specs.CommandForm.{in_range}
+use Rattle.ctrl_model.specs.ValueForms.{in_range}
 use Rattle.json_body.specs.declared.fields.FieldFault.{FieldFault}
 use Rattle.json_body.specs.declared.fields.FieldFault.TheVariants.{Missing, WrongKind, NoMemory}
 use Rattle.json_body.specs.FieldKinds.{as_name, as_number_in, within, member_of, required_from, required, optional_from, optional}

@@ -15,7 +15,7 @@ use Rattle.ctrl_model.specs.declared.addresses.AddressFault.TheVariants as fault
 use Rattle.ctrl_model.specs.declared.intercepts.PortRange.{PortRange}
 use Rattle.ctrl_model.specs.declared.refusals.Field.TheVariants as field
 use Rattle.ctrl_model.specs.AddressForm.{address_of, same_address, is_address}
-use Rattle.ctrl_model.specs.CommandForm.{is_one_place, is_destination, is_port}
+use Rattle.ctrl_model.specs.ValueForms.{is_one_place, is_destination, is_port}
 use Rattle.ctrl_model.specs.InterceptForm.{is_port_range, is_claim, same_ports}
 use Rattle.ctrl_model.proofs.AddressLaws.{address_given}
 use Rattle.json_body.specs.declared.fields.FieldFault.{FieldFault}
@@ -24,7 +24,7 @@ use Rattle.json_body.specs.FieldKinds.{member_of, required_from, required}
 use Rattle.body_fields.specs.ReadResults.{Gives}
 use Rattle.body_fields.specs.ItemLists.{each_of, as_each_of}
 use Rattle.body_fields.specs.InterceptFields.{as_protocol, protocols_of, as_protocols, as_address, as_addresses, destination_of, as_destination, as_port, range_of, as_range, as_ranges}
-use Rattle.body_fields.specs.declared.intercept_fields.ProtocolSet.{ProtocolSet}
+use Rattle.ctrl_model.specs.declared.intercepts.ProtocolSet.{ProtocolSet}
 use Rattle.body_fields.proofs.FieldLaws.{number_form}
 use Rattle.body_fields.proofs.ItemLaws.{as_each_of-form}
 use Rattle.body_fields.proofs.OnceLaws.{as_some_once-claim}

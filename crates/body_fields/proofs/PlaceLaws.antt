@@ -17,7 +17,7 @@ use Rattle.std.proofs.lemmas.Str.Parse.{digit_from_value}
 use Rattle.ctrl_model.specs.declared.addresses.Address.{Address}
 use Rattle.ctrl_model.specs.declared.addresses.Address.TheVariants.{Host, Under, Range}
 use Rattle.ctrl_model.specs.AddressForm.{lowered, is_host, host_of, number_to, ip_of, first_bits, parts_at, range_in, range_of, under_of, or_else, address_of}
-use Rattle.ctrl_model.specs.CommandForm.{is_one_place}
+use Rattle.ctrl_model.specs.ValueForms.{is_one_place}
 use Rattle.ctrl_model.proofs.CutLaws.{cut_found, cut_nowhere}
 use Rattle.ctrl_model.proofs.HostTexts.{host_lacks}
 use Rattle.ctrl_model.proofs.NumberTexts.{text_of_number, number_of_text}

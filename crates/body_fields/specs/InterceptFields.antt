@@ -7,12 +7,12 @@ use Rattle.serde_json.specs.Find.{as_str}
 use Rattle.ctrl_model.specs.declared.addresses.Address.{Address}
 use Rattle.ctrl_model.specs.declared.intercepts.PortRange.{PortRange}
 use Rattle.ctrl_model.specs.AddressForm.{address_of, same_address}
-use Rattle.ctrl_model.specs.CommandForm.{is_one_place}
+use Rattle.ctrl_model.specs.ValueForms.{is_one_place}
 use Rattle.ctrl_model.specs.InterceptForm.{same_ports}
 use Rattle.ctrl_model.specs.Limits.{most_claimed, most_port}
 use Rattle.json_body.specs.FieldKinds.{as_number_in}
 use Rattle.body_fields.specs.ItemLists.{as_each_of, as_some_once}
-use Rattle.body_fields.specs.declared.intercept_fields.ProtocolSet.{ProtocolSet}
+use Rattle.ctrl_model.specs.declared.intercepts.ProtocolSet.{ProtocolSet}
 
 -- ---- protocols
 

@@ -9,19 +9,13 @@ ghost use Rattle.body_fields.specs.ReadResults.{Gives};
 use crate::item_lists::{ItemKind, SameItems, is_some_list_of, some_once};
 use ctrl_model::{
     Address, AddressFault, Addresses, Field, MOST_CLAIMED, MOST_PORT, PortRange, PortRanges,
+    ProtocolSet,
 };
 use json_body::{FieldFault, Fields, as_list_of, as_number_in};
 use serde_json::Value;
 use std::alloc::{AllocError, Global};
 
 // ---- protocols
-
-/// The protocols of an intercept.
-#[derive(Clone, Copy)]
-pub struct ProtocolSet {
-    pub tcp: bool,
-    pub udp: bool,
-}
 
 fn protocol_of(word: &str) -> Option<bool>
     ensures { result ≡ protocol_of word.now }

@@ -13,8 +13,8 @@ pub use bodies::value_in;
 pub use field_rules::{AskedField, FieldKind, keep_rules};
 pub use field_words::{precedence, precedence_in, relation, relation_in, semantic, semantic_in};
 pub use intercept_fields::{
-    ItemAddress, ItemRange, ProtocolSet, addresses, are_addresses, are_ranges, destination,
-    is_destination, protocol, protocol_in, protocols, protocols_in, ranges,
+    ItemAddress, ItemRange, addresses, are_addresses, are_ranges, destination, is_destination,
+    protocol, protocol_in, protocols, protocols_in, ranges,
 };
 pub use item_lists::{
     ItemKind, ItemName, SameItems, are_said, each_in, each_once_in, is_list_of, is_some_list_of,

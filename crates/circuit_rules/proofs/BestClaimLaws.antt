@@ -6,7 +6,7 @@ use Rattle.std.specs.List.{list_all}
 use Rattle.std.specs.declared.alloc.AllocError.{AllocError}
 use Rattle.ctrl_model.specs.declared.kinds.RouterSeen.{RouterSeen}
 use Rattle.ctrl_model.specs.declared.claims.Explanation.{Explanation}
-use Rattle.ctrl_model.specs.CommandForm.{is_cost, is_link_cost, is_latency}
+use Rattle.ctrl_model.specs.ValueForms.{is_cost, is_link_cost, is_latency}
 use Rattle.ctrl_model.specs.Numbered.{numbers}
 use Rattle.ctrl_model.specs.State.{Link}
 use Rattle.ctrl_model.specs.PlainPaths.{NoneTwice}

@@ -13,7 +13,7 @@ use Rattle.ctrl_model.specs.Membership.{Among}
 use Rattle.ctrl_model.specs.Matches.{is_nothing}
 use Rattle.ctrl_model.specs.Numbered.{numbers}
 use Rattle.ctrl_model.specs.PlainPaths.{NoneTwice}
-use Rattle.ctrl_model.specs.CommandForm.{is_cost}
+use Rattle.ctrl_model.specs.ValueForms.{is_cost}
 use Rattle.ctrl_model.specs.State.{Terminator}
 use Rattle.ctrl_model.specs.ValidState.{each_passes}
 use Rattle.ctrl_model.specs.Networks.{Network, is_path, admissible}

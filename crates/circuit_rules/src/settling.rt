@@ -1,7 +1,7 @@
 ghost use Rattle.std.specs.Prelude.{◌≡◌, map, IfOk, IsTrue};
 ghost use Rattle.std.specs.List.{list_all};
 ghost use Rattle.ctrl_model.specs.Networks.{hops};
-ghost use Rattle.ctrl_model.specs.CommandForm.{is_cost};
+ghost use Rattle.ctrl_model.specs.ValueForms.{is_cost};
 ghost use Rattle.ctrl_model.specs.Numbered.{numbers, Between};
 ghost use Rattle.ctrl_model.specs.Claims.{router_numbers, value_at, does_not_improve, is_settled};
 ghost use Rattle.fabric_graph.specs.Routers.{AreRouters, numbered, IsGraphOf};

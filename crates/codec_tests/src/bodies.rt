@@ -1,7 +1,7 @@
 //! Bodies of the commands on intercepts, read and written again: no run writes such a command.
 
 ghost use Rattle.std.specs.Prelude.{◌≡◌, true, IfSome};
-ghost use Rattle.ctrl_model.specs.CommandForm.{is_spelled};
+ghost use Rattle.ctrl_model.specs.SpelledCommands.{is_spelled};
 
 use crate::checks::are_bytes;
 use command_bodies::write;

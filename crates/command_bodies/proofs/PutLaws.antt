@@ -8,7 +8,8 @@ use Rattle.ctrl_model.specs.declared.commands.Command.TheVariants as command
 use Rattle.ctrl_model.specs.declared.refusals.Field.{Field}
 use Rattle.command_bodies.specs.declared.field_values.BodyMembers.{BodyMembers}
 use Rattle.command_bodies.specs.declared.field_values.FieldValue.{FieldValue}
-use Rattle.command_bodies.specs.CommandFields.{each_written, form_of, given_fields, values_between, values_of, with_given}
+use Rattle.command_bodies.specs.CommandFields.{each_written, given_fields, values_between, with_given}
+use Rattle.ctrl_model.specs.CommandValues.{form_of, values_of}
 use Rattle.command_bodies.specs.ValueTexts.{given_by}
 use Rattle.command_bodies.specs.WrittenFields.{Given, with_fields}
 

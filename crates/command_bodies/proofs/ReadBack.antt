@@ -17,25 +17,29 @@ use Rattle.serde_json.proofs.Views.{get_member-put, get_member-put_other}
 use Rattle.ctrl_model.specs.declared.commands.Command.{Command}
 use Rattle.ctrl_model.specs.declared.commands.Command.TheVariants as command
 use Rattle.ctrl_model.specs.declared.refusals.Field.{Field}
-use Rattle.ctrl_model.specs.CommandForm.{is_spelled}
+use Rattle.ctrl_model.specs.SpelledCommands.{is_spelled}
 use Rattle.ctrl_model.specs.Matches.{has_name}
 use Rattle.ctrl_model.specs.Words.{word_of}
 use Rattle.ctrl_model.proofs.DistinctLaws.{same_bytes}
 use Rattle.json_body.specs.declared.fields.FieldFault.TheVariants.{WrongKind}
 use Rattle.json_body.specs.FieldKinds.{are_words_of, is_word_of, member_of, required_from, optional_from}
-use Rattle.command_codec.specs.declared.body_kinds.BodyKind.{BodyKind}
-use Rattle.command_codec.specs.declared.body_kinds.BodyKind.TheVariants as body
-use Rattle.command_codec.specs.BodyForms.{BodyField, Form, Values, ◌&◌, fields_in, made_of}
-use Rattle.command_codec.specs.BodyKinds.{Said, as_kind}
+use Rattle.ctrl_model.specs.declared.value_kinds.ValueKind.{ValueKind}
+use Rattle.ctrl_model.specs.declared.value_kinds.ValueKind.TheVariants as value
+use Rattle.ctrl_model.specs.BodyForms.{BodyField, Form, Values, ◌&◌, fields_in, made_of}
+use Rattle.ctrl_model.specs.ValueKinds.{Said}
+use Rattle.command_codec.specs.BodyKinds.{as_kind}
 use Rattle.command_codec.specs.BodyMeaning.{said_of, said_in, meaning_under, meaning}
 use Rattle.command_codec.specs.BodyObjects.{object_of_body, said_by, with_cause}
-use Rattle.command_codec.specs.CommandForms.{Row, all_rows, form_under, row_at}
-use Rattle.command_codec.specs.ContentTypes.{content_of}
+use Rattle.ctrl_model.specs.CommandForms.{Row, all_rows, form_under, row_at}
+use Rattle.ctrl_model.specs.ContentTypes.{content_of}
 use Rattle.command_codec.specs.SpelledBodies.{Tells, TellsEach}
-use Rattle.command_codec.proofs.KindLaws.{AllTrue, RowHolds, all_checks, checks, hold_parts, row_of_all, rows_hold, true_parts}
+use Rattle.command_codec.proofs.KindLaws.{AllTrue, RowHolds, hold_parts, row_of_all, rows_hold, true_parts}
+use Rattle.ctrl_model.specs.SpelledCommands.{all_checks}
+use Rattle.ctrl_model.specs.ValueKinds.{checks}
 use Rattle.command_codec.proofs.SpelledLaws.{said_where}
 use Rattle.command_bodies.specs.BodyTexts.{body_object}
-use Rattle.command_bodies.specs.CommandFields.{written, each_written, with_given, given_fields, values_of}
+use Rattle.command_bodies.specs.CommandFields.{written, each_written, with_given, given_fields}
+use Rattle.ctrl_model.specs.CommandValues.{values_of}
 use Rattle.command_bodies.specs.WrittenFields.{Given, data_of, with_field, with_fields, object_with}
 use Rattle.command_bodies.proofs.WrittenKinds.{name_read, instance_read, some_name_read, number_read, relation_read, semantic_read, precedence_read, attributes_read}
 use Rattle.command_bodies.proofs.WrittenSides.{side_read}
@@ -49,65 +53,65 @@ body_of_text text ms form is = rw (is_utf8-from_IsUtf8 text form, is) refl
 -- ---- what is written of a value is read as it
 
 -- What is written of a value, if anything, is of its kind and says it.
-abbrev ReadsAs : (k : BodyKind) → Said k → Option Given → Type 0
+abbrev ReadsAs : (k : ValueKind) → Said k → Option Given → Type 0
 ReadsAs k x None = ⊤
 ReadsAs k x (Some g) = as_kind k (data_of g) ≡ Some x
 
-kind_read : (k : BodyKind) (x : Said k) → AllTrue (checks k x) → ReadsAs k x (written k x)
-kind_read body.Name name h = name_read name h.0
-kind_read body.NameOrNone None h = tt
-kind_read body.NameOrNone (Some name) h = some_name_read name h.0
-kind_read body.Attributes names h = attributes_read names h.0
-kind_read body.Side side h = side_read side h.0
-kind_read (body.Number low high) n h = number_read low high n h.0
-kind_read body.Flag b h = refl
-kind_read body.Relation relation h = relation_read relation h.0
-kind_read body.Semantic semantic h = semantic_read semantic
-kind_read body.Precedence precedence h = precedence_read precedence
-kind_read body.Instance instance h = instance_read instance h.0
-kind_read (body.Numbers most) ns h = numbers_read most ns h.0
-kind_read body.Potentials es h = potentials_read es h.0 h.1.0
-kind_read body.Protocol udp h = protocol_read udp
-kind_read body.Protocols p h = protocols_read p.tcp p.udp h.0
-kind_read body.Destination address h = destination_read address h.0
-kind_read body.Addresses addresses h = addresses_read addresses h.0
-kind_read body.Ranges ranges h = ranges_read ranges h.0
+kind_read : (k : ValueKind) (x : Said k) → AllTrue (checks k x) → ReadsAs k x (written k x)
+kind_read value.Name name h = name_read name h.0
+kind_read value.NameOrNone None h = tt
+kind_read value.NameOrNone (Some name) h = some_name_read name h.0
+kind_read value.Attributes names h = attributes_read names h.0
+kind_read value.Side side h = side_read side h.0
+kind_read (value.Number low high) n h = number_read low high n h.0
+kind_read value.Flag b h = refl
+kind_read value.Relation relation h = relation_read relation h.0
+kind_read value.Semantic semantic h = semantic_read semantic
+kind_read value.Precedence precedence h = precedence_read precedence
+kind_read value.Instance instance h = instance_read instance h.0
+kind_read (value.Numbers most) ns h = numbers_read most ns h.0
+kind_read value.Potentials es h = potentials_read es h.0 h.1.0
+kind_read value.Protocol udp h = protocol_read udp
+kind_read value.Protocols p h = protocols_read p.tcp p.udp h.0
+kind_read value.Destination address h = destination_read address h.0
+kind_read value.Addresses addresses h = addresses_read addresses h.0
+kind_read value.Ranges ranges h = ranges_read ranges h.0
 
 -- Where a kind may have nothing written, a field has that value where it is left out.
-abbrev is_left : (k : BodyKind) → Option (Said k) → Bool
-is_left body.NameOrNone None = false
-is_left body.NameOrNone (Some None) = true
-is_left body.NameOrNone (Some (Some name)) = false
+abbrev is_left : (k : ValueKind) → Option (Said k) → Bool
+is_left value.NameOrNone None = false
+is_left value.NameOrNone (Some None) = true
+is_left value.NameOrNone (Some (Some name)) = false
 is_left _ w = true
 
-left_out : (k : BodyKind) (w : Option (Said k)) (x : Said k) → is_left k w ≡ true → written k x ≡ None → w ≡ Some x
-left_out body.NameOrNone None x left none = absurd (false≢true left)
-left_out body.NameOrNone (Some (Some name)) x left none = absurd (false≢true left)
-left_out body.NameOrNone (Some None) None left none = refl
-left_out body.NameOrNone (Some None) (Some name) left none = absurd (cc)
-left_out body.Name w x left none = absurd (cc)
-left_out body.Attributes w x left none = absurd (cc)
-left_out body.Side w x left none = absurd (cc)
-left_out (body.Number low high) w x left none = absurd (cc)
-left_out body.Flag w x left none = absurd (cc)
-left_out body.Relation w x left none = absurd (cc)
-left_out body.Semantic w x left none = absurd (cc)
-left_out body.Precedence w x left none = absurd (cc)
-left_out body.Instance w x left none = absurd (cc)
-left_out (body.Numbers most) w x left none = absurd (cc)
-left_out body.Potentials w x left none = absurd (cc)
-left_out body.Protocol w x left none = absurd (cc)
-left_out body.Protocols w x left none = absurd (cc)
-left_out body.Destination w x left none = absurd (cc)
-left_out body.Addresses w x left none = absurd (cc)
-left_out body.Ranges w x left none = absurd (cc)
+left_out : (k : ValueKind) (w : Option (Said k)) (x : Said k) → is_left k w ≡ true → written k x ≡ None → w ≡ Some x
+left_out value.NameOrNone None x left none = absurd (false≢true left)
+left_out value.NameOrNone (Some (Some name)) x left none = absurd (false≢true left)
+left_out value.NameOrNone (Some None) None left none = refl
+left_out value.NameOrNone (Some None) (Some name) left none = absurd (cc)
+left_out value.Name w x left none = absurd (cc)
+left_out value.Attributes w x left none = absurd (cc)
+left_out value.Side w x left none = absurd (cc)
+left_out (value.Number low high) w x left none = absurd (cc)
+left_out value.Flag w x left none = absurd (cc)
+left_out value.Relation w x left none = absurd (cc)
+left_out value.Semantic w x left none = absurd (cc)
+left_out value.Precedence w x left none = absurd (cc)
+left_out value.Instance w x left none = absurd (cc)
+left_out (value.Numbers most) w x left none = absurd (cc)
+left_out value.Potentials w x left none = absurd (cc)
+left_out value.Protocol w x left none = absurd (cc)
+left_out value.Protocols w x left none = absurd (cc)
+left_out value.Destination w x left none = absurd (cc)
+left_out value.Addresses w x left none = absurd (cc)
+left_out value.Ranges w x left none = absurd (cc)
 
 -- What an object says of a field, by the member that it has there.
-told : (k : BodyKind) (w : Option (Said k)) (of_field : Field) (o d : Data) (x : Said k) → member_of of_field o ≡ Some d → as_kind k d ≡ Some x → said_of k w of_field o ≡ Ok x
+told : (k : ValueKind) (w : Option (Said k)) (of_field : Field) (o d : Data) (x : Said k) → member_of of_field o ≡ Some d → as_kind k d ≡ Some x → said_of k w of_field o ≡ Ok x
 told k None of_field o d x there is = ap (required_from of_field (as_kind k)) there ∙ ap (λ q. ok_or q (WrongKind of_field)) is
 told k (Some y) of_field o d x there is = ap (optional_from of_field (as_kind k) y) there ∙ ap (λ q. ok_or q (WrongKind of_field)) is
 
-not_told : (k : BodyKind) (w : Option (Said k)) (of_field : Field) (o : Data) (x : Said k) → w ≡ Some x → member_of of_field o ≡ None → said_of k w of_field o ≡ Ok x
+not_told : (k : ValueKind) (w : Option (Said k)) (of_field : Field) (o : Data) (x : Said k) → w ≡ Some x → member_of of_field o ≡ None → said_of k w of_field o ≡ Ok x
 not_told k None of_field o x same absent = absurd (cc)
 not_told k (Some y) of_field o x same absent = ap (optional_from of_field (as_kind k) y) absent ∙ ap (λ z. Ok z) (same_Some y x same)
 

@@ -6,7 +6,7 @@ use Rattle.std.proofs.lemmas.Bool.{and_parts}
 use Rattle.serde_json.specs.Data.{null, array}
 use Rattle.serde_json.specs.View.{items_of}
 use Rattle.ctrl_model.specs.Claims.{no_path}
-use Rattle.ctrl_model.specs.CommandForm.{is_number, is_value, is_reach, are_numbers}
+use Rattle.ctrl_model.specs.ValueForms.{is_number, is_value, is_reach, are_numbers}
 use Rattle.ctrl_model.specs.declared.claims.Reach.{Reach}
 use Rattle.command_bodies.specs.WrittenFields.{natural, value_or_null, potential, list_of}
 use Rattle.body_fields.specs.FieldValues.{as_no}

@@ -9,7 +9,7 @@ use Rattle.serde_json.specs.View.{items_of}
 use Rattle.ctrl_model.specs.declared.addresses.Address.{Address}
 use Rattle.ctrl_model.specs.declared.intercepts.PortRange.{PortRange}
 use Rattle.ctrl_model.specs.AddressForm.{address_text, same_address, is_address}
-use Rattle.ctrl_model.specs.CommandForm.{is_destination, is_one_place, is_port}
+use Rattle.ctrl_model.specs.ValueForms.{is_destination, is_one_place, is_port}
 use Rattle.ctrl_model.specs.InterceptForm.{is_claim, is_port_range, is_without_repeats, same_ports}
 use Rattle.ctrl_model.proofs.AddressLaws.{own_spelling}
 use Rattle.body_fields.specs.InterceptFields.{as_protocol, as_protocols, as_address, as_addresses, destination_of, as_destination, as_port, range_of, as_range, as_ranges}
@@ -20,6 +20,13 @@ use Rattle.command_bodies.specs.WrittenWords.{protocol_word, protocol_words}
 use Rattle.command_bodies.proofs.WrittenKinds.{number_read, list_read}
 
 -- ---- lists of what an intercept claims
+
+-- Each thing of a claim has its form.
+pub claimed_forms : {A : Type 0} (form : A → Bool) (same : A → A → Bool) (xs : List A) → is_claim form same xs ≡ true → list_all form xs ≡ true
+claimed_forms form same xs h =
+    let p = and_parts (nat_le 1 (length xs)) (nat_le (length xs) 32 && (list_all form xs && is_without_repeats same xs)) h in
+    let q = and_parts (nat_le (length xs) 32) (list_all form xs && is_without_repeats same xs) p.1 in
+    (and_parts (list_all form xs) (is_without_repeats same xs) q.1).0
 
 some_read : {A : Type 0} (kind : Data → Option A) (g : A → Data) (form : A → Bool) (same : A → A → Bool) → ((x : A) → form x ≡ true → kind (g x) ≡ Some x)
     → (xs : List A) → is_claim form same xs ≡ true → as_some_once 32 kind same (array (items_of (map g xs))) ≡ Some xs

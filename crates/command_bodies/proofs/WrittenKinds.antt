@@ -7,7 +7,7 @@ use Rattle.serde_json.specs.Data.{Data, string, array}
 use Rattle.serde_json.specs.View.{items_of}
 use Rattle.ctrl_model.specs.NameForm.{is_name, is_instance}
 use Rattle.ctrl_model.specs.Matches.{has_name}
-use Rattle.ctrl_model.specs.CommandForm.{in_range, is_distinct, are_names, are_attributes, is_service_relation}
+use Rattle.ctrl_model.specs.ValueForms.{in_range, is_distinct, are_names, are_attributes, is_service_relation}
 use Rattle.ctrl_model.specs.declared.kinds.Precedence.{Precedence}
 use Rattle.ctrl_model.specs.declared.kinds.Precedence.TheVariants.{Required, Normal, Failed}
 use Rattle.ctrl_model.specs.declared.kinds.Relation.{Relation}

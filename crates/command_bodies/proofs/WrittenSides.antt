@@ -7,7 +7,7 @@ use Rattle.serde_json.specs.Data.{string, array}
 use Rattle.serde_json.specs.View.{items_of}
 use Rattle.ctrl_model.specs.NameForm.{is_name}
 use Rattle.ctrl_model.specs.Matches.{has_name, is_nothing}
-use Rattle.ctrl_model.specs.CommandForm.{is_distinct, are_names, is_stored_side, is_side}
+use Rattle.ctrl_model.specs.ValueForms.{is_distinct, are_names, is_stored_side, is_side}
 use Rattle.ctrl_model.specs.declared.kinds.Role.{Role}
 use Rattle.ctrl_model.specs.declared.kinds.Role.TheVariants as role
 use Rattle.ctrl_model.specs.declared.kinds.Side.{Side}

@@ -4,7 +4,7 @@ use Rattle.std.specs.Prelude.{ℕ, ◌==◌, if◌then◌else◌, List, []}
 use Rattle.serde_json.specs.Data.{Data}
 use Rattle.serde_json.specs.Written.{compact_text}
 use Rattle.ctrl_model.specs.declared.commands.Command.{Command}
-use Rattle.command_codec.specs.ContentTypes.{content_of}
+use Rattle.ctrl_model.specs.ContentTypes.{content_of}
 use Rattle.command_bodies.specs.CommandFields.{fields_of}
 use Rattle.command_bodies.specs.WrittenFields.{object_with}
 

@@ -1,5 +1,5 @@
 ghost use Rattle.std.specs.Prelude.{◌≡◌, nat_lt, if◌then◌else◌};
-ghost use Rattle.command_codec.specs.ContentTypes.{content_of};
+ghost use Rattle.ctrl_model.specs.ContentTypes.{content_of};
 
 use ctrl_model::Command;
 

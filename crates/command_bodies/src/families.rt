@@ -1,10 +1,11 @@
 // The values that a command gives in the fields of its form, family by family.
 ghost use Rattle.std.specs.Prelude.{◌≡◌, true, OnOk};
 ghost use Rattle.serde_json.specs.View.{members_view};
-ghost use Rattle.ctrl_model.specs.CommandForm.{is_spelled};
-ghost use Rattle.command_bodies.specs.CommandFields.{fields_of, form_of, given_fields, values_between};
+ghost use Rattle.ctrl_model.specs.SpelledCommands.{is_spelled};
+ghost use Rattle.command_bodies.specs.CommandFields.{fields_of, given_fields, values_between};
+ghost use Rattle.ctrl_model.specs.CommandValues.{form_of};
 ghost use Rattle.command_bodies.specs.WrittenFields.{with_fields};
-ghost use Rattle.command_codec.specs.BodyForms.{fields_in};
+ghost use Rattle.ctrl_model.specs.BodyForms.{fields_in};
 
 use crate::field_values::BodyMembers;
 use crate::field_values::FieldValue::{

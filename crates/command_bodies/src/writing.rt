@@ -1,10 +1,10 @@
 ghost use Rattle.std.specs.Prelude.{◌≡◌, true, IfOk, Some, Ok};
 ghost use Rattle.serde_json.specs.View.{view};
 ghost use Rattle.serde_json.specs.Written.{compact_text};
-ghost use Rattle.ctrl_model.specs.CommandForm.{is_spelled};
+ghost use Rattle.ctrl_model.specs.SpelledCommands.{is_spelled};
 ghost use Rattle.command_codec.specs.BodyMeaning.{meaning};
 ghost use Rattle.command_codec.specs.BodyObjects.{object_of_body};
-ghost use Rattle.command_codec.specs.ContentTypes.{content_of};
+ghost use Rattle.ctrl_model.specs.ContentTypes.{content_of};
 ghost use Rattle.command_bodies.specs.BodyTexts.{body_object, body_text};
 
 use crate::content_types::content_of;

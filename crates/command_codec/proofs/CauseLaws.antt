@@ -12,11 +12,12 @@ use Rattle.json_body.specs.declared.fields.FieldFault.TheVariants.{Missing, Wron
 use Rattle.body_fields.specs.FieldRules.{FieldRule, Breaks, IsFirstFault, IsFirstAmong, rule_of}
 use Rattle.command_codec.specs.declared.reading.CodecFault.{CodecFault}
 use Rattle.command_codec.specs.declared.reading.CodecFault.TheVariants.{UnsupportedType, BadBody, NoMemory}
-use Rattle.command_codec.specs.BodyForms.{Form, asked_by, fields_in, rules_in}
-use Rattle.command_codec.specs.BodyKinds.{Said, is_of_kind}
+use Rattle.ctrl_model.specs.BodyForms.{Form, fields_in}
+use Rattle.command_codec.specs.FormRules.{asked_by, rules_in, is_of_body_kind}
+use Rattle.ctrl_model.specs.ValueKinds.{Said}
 use Rattle.command_codec.specs.BodyMeaning.{said_in, meaning_under, meaning}
 use Rattle.command_codec.specs.BodyObjects.{object_of_body, cause_of, with_cause, said_by}
-use Rattle.command_codec.specs.CommandForms.{Row, row_at}
+use Rattle.ctrl_model.specs.CommandForms.{Row, row_at}
 use Rattle.command_codec.specs.FirstCauses.{IsFaultCause, IsCauseOf, IsCauseUnder, IsFirstCause}
 use Rattle.command_codec.proofs.FirstCauseLaws.{TellsFirst, form_first}
 
@@ -35,7 +36,7 @@ rules_fields [] = refl
 rules_fields (f ∷ fs) = by f.otherwise (rules_fields fs)
   where
     by : (w : Option (Said f.kind)) → map (λ rule. rule.of_field) (rules_in fs) ≡ fields_in fs
-        → (rule_of is_of_kind (asked_by f.kind w f.of_field)).of_field ∷ map (λ rule. rule.of_field) (rules_in fs) ≡ f.of_field ∷ fields_in fs
+        → (rule_of is_of_body_kind (asked_by f.kind w f.of_field)).of_field ∷ map (λ rule. rule.of_field) (rules_in fs) ≡ f.of_field ∷ fields_in fs
     by None rest = ap (λ xs. f.of_field ∷ xs) rest
     by (Some x) rest = ap (λ xs. f.of_field ∷ xs) rest
 

@@ -11,10 +11,12 @@ use Rattle.json_body.specs.declared.fields.FieldFault.TheVariants.{Missing, Wron
 use Rattle.json_body.specs.FieldKinds.{member_of, required_from, required, optional_from, optional, has_only}
 use Rattle.command_codec.specs.BodyObjects.{◌>>=◌}
 use Rattle.body_fields.specs.FieldRules.{FieldRule, needs, may_have, Breaks, Keeps, BreaksFirst, HasAnotherKey, rule_of}
-use Rattle.command_codec.specs.BodyForms.{BodyField, Form, Makes, asked_by, rules_in}
-use Rattle.command_codec.specs.declared.body_kinds.BodyKind.{BodyKind}
-use Rattle.command_codec.specs.declared.body_kinds.BodyKind.TheVariants as body
-use Rattle.command_codec.specs.BodyKinds.{Said, as_kind, is_of_kind}
+use Rattle.ctrl_model.specs.BodyForms.{BodyField, Form, Makes}
+use Rattle.command_codec.specs.FormRules.{asked_by, rules_in, is_of_body_kind}
+use Rattle.ctrl_model.specs.declared.value_kinds.ValueKind.{ValueKind}
+use Rattle.ctrl_model.specs.declared.value_kinds.ValueKind.TheVariants as value
+use Rattle.ctrl_model.specs.ValueKinds.{Said}
+use Rattle.command_codec.specs.BodyKinds.{as_kind, is_of_kind}
 use Rattle.command_codec.specs.BodyMeaning.{said_of, field_said, given, ended}
 
 -- What is said is a fault exactly where an object that is to keep these rules, and to have the words of these fields alone, has it
@@ -151,31 +153,31 @@ none_first fields o c f = by (has_only fields o) refl
 -- ---- a form
 
 -- A value is of a kind where it says something of it.
-same_kind : (k : BodyKind) (d : Data) → is_some (as_kind k d) ≡ is_of_kind k d
-same_kind body.Name d = refl
-same_kind body.NameOrNone d = refl
-same_kind body.Attributes d = refl
-same_kind body.Side d = refl
-same_kind (body.Number low high) d = refl
-same_kind body.Flag d = refl
-same_kind body.Relation d = refl
-same_kind body.Semantic d = refl
-same_kind body.Precedence d = refl
-same_kind body.Instance d = refl
-same_kind (body.Numbers most) d = refl
-same_kind body.Potentials d = refl
-same_kind body.Protocol d = refl
-same_kind body.Protocols d = refl
-same_kind body.Destination d = refl
-same_kind body.Addresses d = refl
-same_kind body.Ranges d = refl
+same_kind : (k : ValueKind) (d : Data) → is_some (as_kind k d) ≡ is_of_kind k d
+same_kind value.Name d = refl
+same_kind value.NameOrNone d = refl
+same_kind value.Attributes d = refl
+same_kind value.Side d = refl
+same_kind (value.Number low high) d = refl
+same_kind value.Flag d = refl
+same_kind value.Relation d = refl
+same_kind value.Semantic d = refl
+same_kind value.Precedence d = refl
+same_kind value.Instance d = refl
+same_kind (value.Numbers most) d = refl
+same_kind value.Potentials d = refl
+same_kind value.Protocol d = refl
+same_kind value.Protocols d = refl
+same_kind value.Destination d = refl
+same_kind value.Addresses d = refl
+same_kind value.Ranges d = refl
 
 -- What is said of a field, with the rule of it.
 field_first : (f : BodyField) (fields : List Field) (rules : List FieldRule) (o : Data) (k : Said f.kind → Result Command FieldFault) → ((x : Said f.kind) → TellsFirst fields rules o (k x))
-    → TellsFirst fields (rule_of is_of_kind (asked_by f.kind f.otherwise f.of_field) ∷ rules) o (field_said f o >>= k)
+    → TellsFirst fields (rule_of is_of_body_kind (asked_by f.kind f.otherwise f.of_field) ∷ rules) o (field_said f o >>= k)
 field_first f fields rules o k rest = by f.otherwise
   where
-    by : (w : Option (Said f.kind)) → TellsFirst fields (rule_of is_of_kind (asked_by f.kind w f.of_field) ∷ rules) o (said_of f.kind w f.of_field o >>= k)
+    by : (w : Option (Said f.kind)) → TellsFirst fields (rule_of is_of_body_kind (asked_by f.kind w f.of_field) ∷ rules) o (said_of f.kind w f.of_field o >>= k)
     by None =
         subst (λ (is_of : Data → Bool). TellsFirst fields (record { of_field = f.of_field; is_needed = true; is_of_kind = is_of } ∷ rules) o (required (as_kind f.kind) f.of_field o >>= k))
         (λ i d. same_kind f.kind d i) (required_first (as_kind f.kind) f.of_field fields rules o k rest)

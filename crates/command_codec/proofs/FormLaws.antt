@@ -13,11 +13,10 @@ use Rattle.body_fields.specs.declared.field_rules.AskedField.{AskedField}
 use Rattle.body_fields.specs.FieldRules.{FieldRule, Breaks, IsFirstAmong, rules_of}
 use Rattle.command_codec.specs.declared.body_forms.BodyForm.{BodyForm}
 use Rattle.command_codec.specs.declared.body_kinds.BodyKind.{BodyKind}
-use Rattle.command_codec.specs.BodyForms.{fields_in}
-use Rattle.command_codec.specs.BodyKinds.{is_of_kind}
+use Rattle.ctrl_model.specs.BodyForms.{fields_in}
 use Rattle.command_codec.specs.BodyMeaning.{given, said_in, said_under, given_under}
-use Rattle.command_codec.specs.CommandForms.{Row, form_at, form_under, row_at}
-use Rattle.command_codec.specs.FormRules.{form_asks, row_asks}
+use Rattle.ctrl_model.specs.CommandForms.{Row, form_at, form_under, row_at}
+use Rattle.command_codec.specs.FormRules.{form_asks, row_asks, is_of_body_kind}
 use Rattle.command_codec.proofs.CauseLaws.{row_follows}
 use Rattle.command_codec.proofs.SpelledLaws.{ended_ok}
 
@@ -31,7 +30,7 @@ IsForm content asks = Some asks ≡ option_map row_asks (row_at content)
 
 -- The first faults by what is asked.
 abbrev pub FirstBy : Asks → Data → FieldFault → Type 0
-FirstBy asks o f = IsFirstAmong (rules_of is_of_kind asks.0) asks.1 o f
+FirstBy asks o f = IsFirstAmong (rules_of is_of_body_kind asks.0) asks.1 o f
 
 -- Where there is a form, there is a row with it.
 pub with_row : {P : Type 0} (content : ℕ) (asks : Asks) → IsForm content asks → ((r : Row) → row_at content ≡ Some r → asks ≡ row_asks r → P) → P

@@ -11,7 +11,8 @@ use Rattle.ctrl_model.specs.declared.kinds.Kind.TheVariants as kind
 use Rattle.ctrl_model.specs.declared.kinds.Relation.{Relation}
 use Rattle.ctrl_model.specs.declared.kinds.Relation.TheVariants.{Dial, Bind}
 use Rattle.ctrl_model.specs.AddressForm.{is_address, same_address}
-use Rattle.ctrl_model.specs.CommandForm.{in_range, are_attributes, is_side, is_service_relation, is_name_or_none, is_reach, are_numbers, is_destination, is_number, is_spelled}
+use Rattle.ctrl_model.specs.ValueForms.{in_range, are_attributes, is_side, is_service_relation, is_name_or_none, is_reach, are_numbers, is_destination, is_number}
+use Rattle.ctrl_model.specs.SpelledCommands.{all_checks, all_hold, is_spelled}
 use Rattle.ctrl_model.specs.InterceptForm.{is_claim, is_port_range, same_ports}
 use Rattle.ctrl_model.specs.Limits.{limit, longest_path, most_number}
 use Rattle.ctrl_model.specs.NameForm.{is_name, is_instance}
@@ -22,50 +23,18 @@ use Rattle.body_fields.proofs.ClaimLaws.{as_numbers-form, as_potentials-form}
 use Rattle.body_fields.proofs.FieldLaws.{number_form}
 use Rattle.body_fields.proofs.InterceptLaws.{protocols-form, addresses-form, destination-form, ranges-form}
 use Rattle.body_fields.proofs.ItemLaws.{by_mapped}
-use Rattle.command_codec.specs.declared.body_kinds.BodyKind.{BodyKind}
-use Rattle.command_codec.specs.declared.body_kinds.BodyKind.TheVariants as body
-use Rattle.command_codec.specs.BodyForms.{Form, Values, ◌&◌, made_of}
-use Rattle.command_codec.specs.BodyKinds.{Said, as_kind}
-use Rattle.command_codec.specs.CommandForms.{Row, all_rows, claim, row_in, row_at}
-use Rattle.command_codec.specs.ContentTypes.{content_of}
+use Rattle.ctrl_model.specs.declared.value_kinds.ValueKind.{ValueKind}
+use Rattle.ctrl_model.specs.declared.value_kinds.ValueKind.TheVariants as value
+use Rattle.ctrl_model.specs.BodyForms.{Form, Values, ◌&◌, made_of}
+use Rattle.ctrl_model.specs.ValueKinds.{Said, checks}
+use Rattle.command_codec.specs.BodyKinds.{as_kind}
+use Rattle.ctrl_model.specs.CommandForms.{Row, all_rows, claim, row_in, row_at}
+use Rattle.ctrl_model.specs.ContentTypes.{content_of}
 use Rattle.command_codec.proofs.NameListLaws.{as_name-form, as_attributes-form}
 use Rattle.command_codec.proofs.SideLaws.{as_side-form}
 
--- ---- what is to hold of values
-
--- What is to hold of a value of a kind, for a command to be one that some body spells.
-abbrev pub checks : (k : BodyKind) → Said k → List Bool
-checks body.Name n = is_name n ∷ []
-checks body.NameOrNone n = is_name_or_none n ∷ []
-checks body.Attributes ns = are_attributes ns ∷ []
-checks body.Side side = is_side side ∷ []
-checks (body.Number low high) n = in_range low high n ∷ []
-checks body.Flag b = []
-checks body.Relation r = is_service_relation r ∷ []
-checks body.Semantic s = []
-checks body.Precedence p = []
-checks body.Instance i = is_instance i ∷ []
-checks (body.Numbers most) ns = are_numbers most ns ∷ []
-checks body.Potentials es = nat_le (length es) (limit kind.Router) ∷ list_all is_reach es ∷ []
-checks body.Protocol udp = []
-checks body.Protocols p = (p.tcp || p.udp) ∷ []
-checks body.Destination a = is_destination a ∷ []
-checks body.Addresses xs = is_claim is_address same_address xs ∷ []
-checks body.Ranges rs = is_claim is_port_range same_ports rs ∷ []
-
--- The same of the values of a form.
-abbrev pub all_checks : (form : Form) → Values form → List Bool
-all_checks [] xs = []
-all_checks (f ∷ fs) xs = checks f.kind xs.0 ++ all_checks fs xs.1
-
 abbrev pub AllTrue : List Bool → Type 0
 AllTrue bs = AllByRecursion (λ b. b ≡ true) bs
-
--- Whether all of them hold.
-abbrev pub all_hold : List Bool → Bool
-all_hold [] = true
-all_hold (b ∷ []) = b
-all_hold (b ∷ c ∷ bs) = b && all_hold (c ∷ bs)
 
 pub hold_from : (bs : List Bool) → AllTrue bs → all_hold bs ≡ true
 hold_from [] all = refl
@@ -107,29 +76,29 @@ as_relation-form : (d : Data) (r : Relation) → as_relation d ≡ Some r → is
 as_relation-form d r e = option_and_then_some relation_of (as_str d) r e (λ word is k. relation_of-form word r k)
 
 -- What a value of a kind says keeps what is to hold.
-pub kind_holds : (k : BodyKind) (d : Data) (x : Said k) → as_kind k d ≡ Some x → AllTrue (checks k x)
-kind_holds body.Name d x e = as_name-form d x e & tt
-kind_holds body.NameOrNone d x e = as_some_name-form d x e & tt
-kind_holds body.Attributes d x e = as_attributes-form d x e & tt
-kind_holds body.Side d x e = as_side-form d x e & tt
-kind_holds (body.Number low high) d x e = number_form low high d x e & tt
-kind_holds body.Flag d x e = tt
-kind_holds body.Relation d x e = as_relation-form d x e & tt
-kind_holds body.Semantic d x e = tt
-kind_holds body.Precedence d x e = tt
-kind_holds body.Instance d x e = as_instance-form d x e & tt
-kind_holds (body.Numbers most) d x e = as_numbers-form most d x e & tt
-kind_holds body.Potentials d x e = as_potentials-form d x e (λ few each. few & each & tt)
-kind_holds body.Protocol d x e = tt
-kind_holds body.Protocols d x e = protocols-form d x e & tt
-kind_holds body.Destination d x e = destination-form d x e & tt
-kind_holds body.Addresses d x e = addresses-form d x e & tt
-kind_holds body.Ranges d x e = ranges-form d x e & tt
+pub kind_holds : (k : ValueKind) (d : Data) (x : Said k) → as_kind k d ≡ Some x → AllTrue (checks k x)
+kind_holds value.Name d x e = as_name-form d x e & tt
+kind_holds value.NameOrNone d x e = as_some_name-form d x e & tt
+kind_holds value.Attributes d x e = as_attributes-form d x e & tt
+kind_holds value.Side d x e = as_side-form d x e & tt
+kind_holds (value.Number low high) d x e = number_form low high d x e & tt
+kind_holds value.Flag d x e = tt
+kind_holds value.Relation d x e = as_relation-form d x e & tt
+kind_holds value.Semantic d x e = tt
+kind_holds value.Precedence d x e = tt
+kind_holds value.Instance d x e = as_instance-form d x e & tt
+kind_holds (value.Numbers most) d x e = as_numbers-form most d x e & tt
+kind_holds value.Potentials d x e = as_potentials-form d x e (λ few each. few & each & tt)
+kind_holds value.Protocol d x e = tt
+kind_holds value.Protocols d x e = protocols-form d x e & tt
+kind_holds value.Destination d x e = destination-form d x e & tt
+kind_holds value.Addresses d x e = addresses-form d x e & tt
+kind_holds value.Ranges d x e = ranges-form d x e & tt
 
 -- ---- the rows
 
 -- The value that a field has where it is left out keeps what is to hold.
-abbrev pub default_holds : (k : BodyKind) → Option (Said k) → Bool
+abbrev pub default_holds : (k : ValueKind) → Option (Said k) → Bool
 default_holds k None = true
 default_holds k (Some x) = all_hold (checks k x)
 
@@ -147,16 +116,6 @@ holds : {r : Row} → ((xs : Values r.form) → is_spelled (made_of r.form r.mak
     → ((xs : Values r.form) → content_of (made_of r.form r.make xs) ≡ r.content) → defaults_hold r.form ≡ true → RowHolds r
 holds spelled typed defaults = record { spelled = spelled; typed = typed; defaults = defaults }
 
--- A number that is at most so much is in the range from 0.
-from_zero : (m : ℕ) → nat_le m most_number ≡ in_range 0 most_number m
-from_zero m = sym (ap (λ b. b && nat_le m most_number) (le-leb 0 m (omega arith)))
-
-route_spelled : (xs : Values claim) → is_spelled (made_of claim command.VerifyRoute xs) ≡ all_hold (all_checks claim xs)
-route_spelled xs =
-    ap (λ b. is_name xs.0 && (is_name xs.1.0 && (is_name_or_none xs.1.1.0 && (is_instance xs.1.1.1.0 && (is_name xs.1.1.1.1.0
-    && (are_numbers longest_path xs.1.1.1.1.1.0 && (nat_le (length xs.1.1.1.1.1.1.0) (limit kind.Router) && (list_all is_reach xs.1.1.1.1.1.1.0
-    && (are_numbers (limit kind.Router) xs.1.1.1.1.1.1.1.0 && (is_number xs.1.1.1.1.1.1.1.1.0 && b)))))))))) (from_zero xs.1.1.1.1.1.1.1.1.1.0)
-
 -- Each row, in its order: what is to hold of its command is what is to hold of its values.
 pub rows_hold : AllByRecursion RowHolds all_rows
 rows_hold =
@@ -170,7 +129,7 @@ rows_hold =
     & holds (λ xs. refl) (λ xs. refl) refl & holds (λ xs. refl) (λ xs. refl) refl & holds (λ xs. refl) (λ xs. refl) refl
     & holds (λ xs. refl) (λ xs. refl) refl & holds (λ xs. refl) (λ xs. refl) refl & holds (λ xs. refl) (λ xs. refl) refl
     & holds (λ xs. refl) (λ xs. refl) refl & holds (λ xs. refl) (λ xs. refl) refl & holds (λ xs. refl) (λ xs. refl) refl
-    & holds (λ xs. refl) (λ xs. refl) refl & holds (λ xs. refl) (λ xs. refl) refl & holds route_spelled (λ xs. refl) refl
+    & holds (λ xs. refl) (λ xs. refl) refl & holds (λ xs. refl) (λ xs. refl) refl & holds (λ xs. refl) (λ xs. refl) refl
     & holds (λ xs. refl) (λ xs. refl) refl & holds (λ xs. refl) (λ xs. refl) refl & holds (λ xs. refl) (λ xs. refl) refl
     & holds (λ xs. refl) (λ xs. refl) refl & holds (λ xs. refl) (λ xs. refl) refl & holds (λ xs. refl) (λ xs. refl) refl
     & holds (λ xs. refl) (λ xs. refl) refl & holds (λ xs. refl) (λ xs. refl) refl & holds (λ xs. refl) (λ xs. refl) refl

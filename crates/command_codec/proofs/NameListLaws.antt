@@ -7,7 +7,7 @@ use Rattle.std.proofs.lemmas.Option.{cond_some, option_and_then_some}
 use Rattle.serde_json.specs.Data.{Data}
 use Rattle.serde_json.specs.Find.{as_str}
 use Rattle.ctrl_model.specs.NameForm.{is_name}
-use Rattle.ctrl_model.specs.CommandForm.{is_distinct, are_names, are_attributes}
+use Rattle.ctrl_model.specs.ValueForms.{is_distinct, are_names, are_attributes}
 use Rattle.json_body.specs.FieldKinds.{as_name, name_of}
 use Rattle.role_expr.specs.NameRepeats.{without_repeats}
 use Rattle.role_expr.proofs.RepeatLaws.{without_repeats-distinct, without_repeats-length, without_repeats-names}

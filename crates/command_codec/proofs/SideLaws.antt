@@ -12,7 +12,7 @@ use Rattle.ctrl_model.specs.declared.kinds.Role.TheVariants as role
 use Rattle.ctrl_model.specs.declared.kinds.Side.{Side}
 use Rattle.ctrl_model.specs.NameForm.{is_name}
 use Rattle.ctrl_model.specs.Matches.{has_name, is_nothing}
-use Rattle.ctrl_model.specs.CommandForm.{are_names, is_stored_side, is_side}
+use Rattle.ctrl_model.specs.ValueForms.{are_names, is_stored_side, is_side}
 use Rattle.ctrl_model.proofs.TableLaws.{list_all-filter}
 use Rattle.role_expr.specs.NameRepeats.{without_repeats}
 use Rattle.role_expr.specs.ReadRoles.{role_in}

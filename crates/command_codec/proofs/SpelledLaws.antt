@@ -7,19 +7,22 @@ use Rattle.serde_json.specs.Data.{Data}
 use Rattle.ctrl_model.specs.declared.commands.Command.{Command}
 use Rattle.ctrl_model.specs.declared.commands.Command.TheVariants as command
 use Rattle.ctrl_model.specs.declared.refusals.Field.{Field}
-use Rattle.ctrl_model.specs.CommandForm.{is_spelled}
+use Rattle.ctrl_model.specs.SpelledCommands.{is_spelled}
 use Rattle.json_body.specs.declared.fields.FieldFault.{FieldFault}
 use Rattle.json_body.specs.declared.fields.FieldFault.TheVariants.{WrongKind, Unknown}
 use Rattle.json_body.specs.FieldKinds.{member_of, required_from, optional_from, has_only}
-use Rattle.command_codec.specs.declared.body_kinds.BodyKind.{BodyKind}
-use Rattle.command_codec.specs.BodyForms.{Form, Makes, Values, ◌&◌, fields_in, made_of}
-use Rattle.command_codec.specs.BodyKinds.{Said, as_kind}
+use Rattle.ctrl_model.specs.declared.value_kinds.ValueKind.{ValueKind}
+use Rattle.ctrl_model.specs.BodyForms.{Form, Makes, Values, ◌&◌, fields_in, made_of}
+use Rattle.ctrl_model.specs.ValueKinds.{Said}
+use Rattle.command_codec.specs.BodyKinds.{as_kind}
 use Rattle.command_codec.specs.BodyMeaning.{said_of, field_said, given, ended, said_in, meaning_under, meaning}
 use Rattle.command_codec.specs.BodyObjects.{◌>>=◌, object_of_body, with_cause, said_by}
-use Rattle.command_codec.specs.CommandForms.{Row, all_rows, row_at}
-use Rattle.command_codec.specs.ContentTypes.{content_of}
+use Rattle.ctrl_model.specs.CommandForms.{Row, all_rows, row_at}
+use Rattle.ctrl_model.specs.ContentTypes.{content_of}
 use Rattle.command_codec.specs.SpelledBodies.{TellsEach, Gives, GivesFields, Spells}
-use Rattle.command_codec.proofs.KindLaws.{AllTrue, all_checks, checks, default_holds, defaults_hold, hold_from, hold_parts, both_true, kind_holds, row_content, row_holds}
+use Rattle.command_codec.proofs.KindLaws.{AllTrue, default_holds, defaults_hold, hold_from, hold_parts, both_true, kind_holds, row_content, row_holds}
+use Rattle.ctrl_model.specs.SpelledCommands.{all_checks}
+use Rattle.ctrl_model.specs.ValueKinds.{checks}
 
 ok_same : {A E : Type 0} (x y : A) → ◌≡◌ {A = Result A E} (Ok x) (Ok y) → x ≡ y
 ok_same x y e = cc
@@ -58,12 +61,12 @@ ended_ok (Ok d) fields o c e = by (has_only fields o) refl e
 -- ---- the form of what is said
 
 -- What is said of a field, by the value that an object has there.
-abbrev said_from : (k : BodyKind) → Option (Said k) → Field → Option Data → Result (Said k) FieldFault
+abbrev said_from : (k : ValueKind) → Option (Said k) → Field → Option Data → Result (Said k) FieldFault
 said_from k None of_field v = required_from of_field (as_kind k) v
 said_from k (Some x) of_field v = optional_from of_field (as_kind k) x v
 
 -- What an object says of a field keeps what is to hold of its kind.
-field_holds : (k : BodyKind) (w : Option (Said k)) (of_field : Field) (o : Data) (x : Said k) → said_of k w of_field o ≡ Ok x → default_holds k w ≡ true → AllTrue (checks k x)
+field_holds : (k : ValueKind) (w : Option (Said k)) (of_field : Field) (o : Data) (x : Said k) → said_of k w of_field o ≡ Ok x → default_holds k w ≡ true → AllTrue (checks k x)
 field_holds k w of_field o x e holds = by w (member_of of_field o) (from w e) holds
   where
     from : (w : Option (Said k)) → said_of k w of_field o ≡ Ok x → said_from k w of_field (member_of of_field o) ≡ Ok x

@@ -9,7 +9,7 @@ use Rattle.ctrl_model.specs.declared.commands.Command.{Command}
 use Rattle.ctrl_model.specs.declared.commands.Command.TheVariants as command
 use Rattle.ctrl_model.specs.declared.refusals.Field.TheVariants as field
 use Rattle.ctrl_model.specs.declared.refusals.Reason.TheVariants as reason
-use Rattle.ctrl_model.specs.CommandForm.{is_spelled}
+use Rattle.ctrl_model.specs.SpelledCommands.{is_spelled}
 use Rattle.json_body.specs.declared.fields.FieldFault.{FieldFault}
 use Rattle.json_body.specs.declared.fields.FieldFault.TheVariants as fault
 use Rattle.json_body.specs.FieldKinds.{is_object}
@@ -18,7 +18,7 @@ use Rattle.command_codec.specs.declared.reading.CodecFault.{CodecFault}
 use Rattle.command_codec.specs.declared.reading.CodecFault.TheVariants.{BadBody, UnsupportedType, NoMemory}
 use Rattle.command_codec.specs.BodyObjects.{as_body, object_of_body, cause_of, said_by, with_cause}
 use Rattle.command_codec.specs.BodyMeaning.{meaning_under, meaning, said_in, said_under, value_under, value_meaning}
-use Rattle.command_codec.specs.CommandForms.{Row, row_at}
+use Rattle.ctrl_model.specs.CommandForms.{Row, row_at}
 use Rattle.command_codec.proofs.SpelledLaws.{means}
 
 under_value : (at : Option Row) (body : List ℕ) (d : Data) → value_of_body body ≡ Some d → meaning_under at body ≡ value_under at d

@@ -10,16 +10,17 @@ use Rattle.ctrl_model.specs.declared.refusals.Field.{Field}
 use Rattle.json_body.specs.declared.fields.FieldFault.{FieldFault}
 use Rattle.json_body.specs.declared.fields.FieldFault.TheVariants.{Unknown}
 use Rattle.json_body.specs.FieldKinds.{required, optional, finished}
-use Rattle.command_codec.specs.declared.body_kinds.BodyKind.{BodyKind}
+use Rattle.ctrl_model.specs.declared.value_kinds.ValueKind.{ValueKind}
 use Rattle.command_codec.specs.declared.reading.CodecFault.{CodecFault}
 use Rattle.command_codec.specs.declared.reading.CodecFault.TheVariants.{UnsupportedType}
-use Rattle.command_codec.specs.BodyKinds.{Said, as_kind}
-use Rattle.command_codec.specs.BodyForms.{BodyField, Form, Makes, fields_in}
+use Rattle.ctrl_model.specs.ValueKinds.{Said}
+use Rattle.command_codec.specs.BodyKinds.{as_kind}
+use Rattle.ctrl_model.specs.BodyForms.{BodyField, Form, Makes, fields_in}
 use Rattle.command_codec.specs.BodyObjects.{◌>>=◌, as_body, object_of_body, said_by}
-use Rattle.command_codec.specs.CommandForms.{Row, row_at}
+use Rattle.ctrl_model.specs.CommandForms.{Row, row_at}
 
 -- What an object says of a field of a kind, by the value that the field has where it is left out, if it may be.
-abbrev pub said_of : (kind : BodyKind) → Option (Said kind) → Field → Data → Result (Said kind) FieldFault
+abbrev pub said_of : (kind : ValueKind) → Option (Said kind) → Field → Data → Result (Said kind) FieldFault
 said_of kind None of_field o = required (as_kind kind) of_field o
 said_of kind (Some x) of_field o = optional (as_kind kind) x of_field o
 

@@ -9,9 +9,9 @@ use Rattle.json_body.specs.declared.fields.FieldFault.{FieldFault}
 use Rattle.body_fields.specs.FieldRules.{FieldRule, IsFirstFault}
 use Rattle.command_codec.specs.declared.reading.CodecFault.{CodecFault}
 use Rattle.command_codec.specs.declared.reading.CodecFault.TheVariants.{UnsupportedType, BadBody}
-use Rattle.command_codec.specs.BodyForms.{rules_in}
+use Rattle.command_codec.specs.FormRules.{rules_in}
 use Rattle.command_codec.specs.BodyObjects.{object_of_body, cause_of}
-use Rattle.command_codec.specs.CommandForms.{Row, row_at}
+use Rattle.ctrl_model.specs.CommandForms.{Row, row_at}
 
 -- The first fault of an object, told as a cause.
 pub record IsFaultCause (rules : List FieldRule) (o : Data) (cause : CodecFault) : Type 0 where

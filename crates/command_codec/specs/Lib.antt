@@ -1,11 +1,8 @@
 pub mod NameLists
 pub mod RoleLists
 pub mod BodyKinds
-pub mod BodyForms
 pub mod BodyObjects
-pub mod CommandForms
 pub mod FormRules
 pub mod BodyMeaning
-pub mod ContentTypes
 pub mod SpelledBodies
 pub mod FirstCauses

@@ -6,12 +6,12 @@ use Rattle.serde_json.specs.Data.{Data}
 use Rattle.ctrl_model.specs.declared.commands.Command.{Command}
 use Rattle.ctrl_model.specs.declared.commands.Command.TheVariants as command
 use Rattle.json_body.specs.FieldKinds.{has_only}
-use Rattle.command_codec.specs.BodyKinds.{Said}
-use Rattle.command_codec.specs.BodyForms.{BodyField, Form, Values, fields_in, made_of}
+use Rattle.ctrl_model.specs.ValueKinds.{Said}
+use Rattle.ctrl_model.specs.BodyForms.{BodyField, Form, Values, fields_in, made_of}
 use Rattle.command_codec.specs.BodyMeaning.{field_said}
 use Rattle.command_codec.specs.BodyObjects.{object_of_body}
-use Rattle.command_codec.specs.CommandForms.{Row, row_at}
-use Rattle.command_codec.specs.ContentTypes.{content_of}
+use Rattle.ctrl_model.specs.CommandForms.{Row, row_at}
+use Rattle.ctrl_model.specs.ContentTypes.{content_of}
 
 -- An object gives this value in a field: one of the field's kind, or the one that the field has where it is left out, if it may be.
 abbrev pub Tells : (f : BodyField) → Said f.kind → Data → Type 0

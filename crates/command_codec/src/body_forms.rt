@@ -1,6 +1,6 @@
 ghost use Rattle.std.specs.Prelude.{◌≡◌, option_map};
-ghost use Rattle.command_codec.specs.CommandForms.{entity_rows, policy_rows, link_rows, terminator_rows, circuit_rows, show_rows, intercept_rows, form_at, row_at, row_in};
-ghost use Rattle.command_codec.specs.BodyForms.{fields_in};
+ghost use Rattle.ctrl_model.specs.CommandForms.{entity_rows, policy_rows, link_rows, terminator_rows, circuit_rows, show_rows, intercept_rows, form_at, row_at, row_in};
+ghost use Rattle.ctrl_model.specs.BodyForms.{fields_in};
 ghost use Rattle.command_codec.specs.FormRules.{form_asks, row_asks};
 
 use crate::body_kinds::BodyKind;
@@ -16,7 +16,7 @@ use crate::content_types::{
     UPDATE_SERVICE_POLICY, UPDATE_TERMINATOR, VERIFY_ROUTE,
 };
 use body_fields::AskedField::{self, Needed, Optional};
-use ctrl_model::{Field, LONGEST_PATH, MOST_COST, MOST_LATENCY, MOST_PORT, MOST_ROUTERS};
+use ctrl_model::Field;
 
 // What a command asks of the object that is its body: the rules of its fields, and which fields there may be.
 #[derive(Clone, Copy)]
@@ -25,47 +25,33 @@ pub(crate) struct BodyForm {
     pub(crate) allowed: &'static [Field],
 }
 
-// The number of a record.
-const NUMBER_OF_RECORD: BodyKind = BodyKind::Number(1, u32::MAX);
-
-// A cost of a router or a terminator, of a link, and of a route; a latency; and a port.
-const COST: BodyKind = BodyKind::Number(0, MOST_COST);
-
-const LINK_COST: BodyKind = BodyKind::Number(1, MOST_COST);
-
-const TOTAL: BodyKind = BodyKind::Number(0, u32::MAX);
-
-const LATENCY: BodyKind = BodyKind::Number(0, MOST_LATENCY);
-
-const PORT: BodyKind = BodyKind::Number(1, MOST_PORT);
-
 // One name.
 const NAME: BodyForm = BodyForm {
-    rules: &[Needed(Field::Name, BodyKind::Name)],
+    rules: &[Needed(Field::Name, BodyKind::NAME)],
     allowed: &[Field::Name],
 };
 
 // The name of a link.
 const LINK_NAME: BodyForm = BodyForm {
-    rules: &[Needed(Field::Link, BodyKind::Name)],
+    rules: &[Needed(Field::Link, BodyKind::NAME)],
     allowed: &[Field::Link],
 };
 
 // The name of an identity.
 const IDENTITY_NAME: BodyForm = BodyForm {
-    rules: &[Needed(Field::Identity, BodyKind::Name)],
+    rules: &[Needed(Field::Identity, BodyKind::NAME)],
     allowed: &[Field::Identity],
 };
 
 // The name of a service.
 const SERVICE_NAME: BodyForm = BodyForm {
-    rules: &[Needed(Field::Service, BodyKind::Name)],
+    rules: &[Needed(Field::Service, BodyKind::NAME)],
     allowed: &[Field::Service],
 };
 
 // The number of a record.
 const RECORD: BodyForm = BodyForm {
-    rules: &[Needed(Field::No, NUMBER_OF_RECORD)],
+    rules: &[Needed(Field::No, BodyKind::NUMBER_OF_RECORD)],
     allowed: &[Field::No],
 };
 
@@ -78,16 +64,16 @@ const NOTHING: BodyForm = BodyForm {
 // An identity or a service that is made, and one that is updated.
 const MADE: BodyForm = BodyForm {
     rules: &[
-        Needed(Field::Name, BodyKind::Name),
-        Optional(Field::Attributes, BodyKind::Attributes),
+        Needed(Field::Name, BodyKind::NAME),
+        Optional(Field::Attributes, BodyKind::ATTRIBUTES),
     ],
     allowed: &[Field::Name, Field::Attributes],
 };
 
 const UPDATED: BodyForm = BodyForm {
     rules: &[
-        Needed(Field::Name, BodyKind::Name),
-        Needed(Field::Attributes, BodyKind::Attributes),
+        Needed(Field::Name, BodyKind::NAME),
+        Needed(Field::Attributes, BodyKind::ATTRIBUTES),
     ],
     allowed: &[Field::Name, Field::Attributes],
 };
@@ -95,10 +81,10 @@ const UPDATED: BodyForm = BodyForm {
 // A router that is made, and one that is updated.
 const MADE_ROUTER: BodyForm = BodyForm {
     rules: &[
-        Needed(Field::Name, BodyKind::Name),
-        Optional(Field::Attributes, BodyKind::Attributes),
-        Optional(Field::Cost, COST),
-        Optional(Field::NoTraversal, BodyKind::Flag),
+        Needed(Field::Name, BodyKind::NAME),
+        Optional(Field::Attributes, BodyKind::ATTRIBUTES),
+        Optional(Field::Cost, BodyKind::COST),
+        Optional(Field::NoTraversal, BodyKind::FLAG),
     ],
     allowed: &[
         Field::Name,
@@ -110,10 +96,10 @@ const MADE_ROUTER: BodyForm = BodyForm {
 
 const UPDATED_ROUTER: BodyForm = BodyForm {
     rules: &[
-        Needed(Field::Name, BodyKind::Name),
-        Needed(Field::Attributes, BodyKind::Attributes),
-        Needed(Field::Cost, COST),
-        Needed(Field::NoTraversal, BodyKind::Flag),
+        Needed(Field::Name, BodyKind::NAME),
+        Needed(Field::Attributes, BodyKind::ATTRIBUTES),
+        Needed(Field::Cost, BodyKind::COST),
+        Needed(Field::NoTraversal, BodyKind::FLAG),
     ],
     allowed: &[
         Field::Name,
@@ -126,11 +112,11 @@ const UPDATED_ROUTER: BodyForm = BodyForm {
 // A policy of each kind.
 const SERVICE_POLICY: BodyForm = BodyForm {
     rules: &[
-        Needed(Field::Name, BodyKind::Name),
-        Needed(Field::PolicyType, BodyKind::Relation),
-        Needed(Field::Semantic, BodyKind::Semantic),
-        Needed(Field::IdentityRoles, BodyKind::Side),
-        Needed(Field::ServiceRoles, BodyKind::Side),
+        Needed(Field::Name, BodyKind::NAME),
+        Needed(Field::PolicyType, BodyKind::RELATION),
+        Needed(Field::Semantic, BodyKind::SEMANTIC),
+        Needed(Field::IdentityRoles, BodyKind::SIDE),
+        Needed(Field::ServiceRoles, BodyKind::SIDE),
     ],
     allowed: &[
         Field::Name,
@@ -143,10 +129,10 @@ const SERVICE_POLICY: BodyForm = BodyForm {
 
 const EDGE_ROUTER_POLICY: BodyForm = BodyForm {
     rules: &[
-        Needed(Field::Name, BodyKind::Name),
-        Needed(Field::Semantic, BodyKind::Semantic),
-        Needed(Field::IdentityRoles, BodyKind::Side),
-        Needed(Field::RouterRoles, BodyKind::Side),
+        Needed(Field::Name, BodyKind::NAME),
+        Needed(Field::Semantic, BodyKind::SEMANTIC),
+        Needed(Field::IdentityRoles, BodyKind::SIDE),
+        Needed(Field::RouterRoles, BodyKind::SIDE),
     ],
     allowed: &[
         Field::Name,
@@ -158,10 +144,10 @@ const EDGE_ROUTER_POLICY: BodyForm = BodyForm {
 
 const SERVICE_EDGE_ROUTER_POLICY: BodyForm = BodyForm {
     rules: &[
-        Needed(Field::Name, BodyKind::Name),
-        Needed(Field::Semantic, BodyKind::Semantic),
-        Needed(Field::ServiceRoles, BodyKind::Side),
-        Needed(Field::RouterRoles, BodyKind::Side),
+        Needed(Field::Name, BodyKind::NAME),
+        Needed(Field::Semantic, BodyKind::SEMANTIC),
+        Needed(Field::ServiceRoles, BodyKind::SIDE),
+        Needed(Field::RouterRoles, BodyKind::SIDE),
     ],
     allowed: &[
         Field::Name,
@@ -174,12 +160,12 @@ const SERVICE_EDGE_ROUTER_POLICY: BodyForm = BodyForm {
 // A link that is made, and what is set or reported of one.
 const MADE_LINK: BodyForm = BodyForm {
     rules: &[
-        Needed(Field::Name, BodyKind::Name),
-        Needed(Field::A, BodyKind::Name),
-        Needed(Field::B, BodyKind::Name),
-        Optional(Field::Cost, LINK_COST),
-        Optional(Field::LatencyA, LATENCY),
-        Optional(Field::LatencyB, LATENCY),
+        Needed(Field::Name, BodyKind::NAME),
+        Needed(Field::A, BodyKind::NAME),
+        Needed(Field::B, BodyKind::NAME),
+        Optional(Field::Cost, BodyKind::LINK_COST),
+        Optional(Field::LatencyA, BodyKind::LATENCY),
+        Optional(Field::LatencyB, BodyKind::LATENCY),
     ],
     allowed: &[
         Field::Name,
@@ -193,45 +179,45 @@ const MADE_LINK: BodyForm = BodyForm {
 
 const COST_OF_LINK: BodyForm = BodyForm {
     rules: &[
-        Needed(Field::Link, BodyKind::Name),
-        Needed(Field::Cost, LINK_COST),
+        Needed(Field::Link, BodyKind::NAME),
+        Needed(Field::Cost, BodyKind::LINK_COST),
     ],
     allowed: &[Field::Link, Field::Cost],
 };
 
 const REPORTED_LATENCY: BodyForm = BodyForm {
     rules: &[
-        Needed(Field::Link, BodyKind::Name),
-        Needed(Field::Router, BodyKind::Name),
-        Needed(Field::Latency, LATENCY),
+        Needed(Field::Link, BodyKind::NAME),
+        Needed(Field::Router, BodyKind::NAME),
+        Needed(Field::Latency, BodyKind::LATENCY),
     ],
     allowed: &[Field::Link, Field::Router, Field::Latency],
 };
 
 const REPORTED_STATE: BodyForm = BodyForm {
     rules: &[
-        Needed(Field::Link, BodyKind::Name),
-        Needed(Field::Router, BodyKind::Name),
-        Needed(Field::Up, BodyKind::Flag),
+        Needed(Field::Link, BodyKind::NAME),
+        Needed(Field::Router, BodyKind::NAME),
+        Needed(Field::Up, BodyKind::FLAG),
     ],
     allowed: &[Field::Link, Field::Router, Field::Up],
 };
 
 // The least router cost.
 const LEAST_ROUTER_COST: BodyForm = BodyForm {
-    rules: &[Needed(Field::Cost, LINK_COST)],
+    rules: &[Needed(Field::Cost, BodyKind::LINK_COST)],
     allowed: &[Field::Cost],
 };
 
 // A terminator that is made, and one that is updated.
 const MADE_TERMINATOR: BodyForm = BodyForm {
     rules: &[
-        Needed(Field::Service, BodyKind::Name),
-        Needed(Field::Router, BodyKind::Name),
-        Optional(Field::Instance, BodyKind::Instance),
-        Optional(Field::Host, BodyKind::NameOrNone),
-        Optional(Field::Cost, COST),
-        Optional(Field::Precedence, BodyKind::Precedence),
+        Needed(Field::Service, BodyKind::NAME),
+        Needed(Field::Router, BodyKind::NAME),
+        Optional(Field::Instance, BodyKind::INSTANCE),
+        Optional(Field::Host, BodyKind::NAME_OR_NONE),
+        Optional(Field::Cost, BodyKind::COST),
+        Optional(Field::Precedence, BodyKind::PRECEDENCE),
     ],
     allowed: &[
         Field::Service,
@@ -245,9 +231,9 @@ const MADE_TERMINATOR: BodyForm = BodyForm {
 
 const UPDATED_TERMINATOR: BodyForm = BodyForm {
     rules: &[
-        Needed(Field::No, NUMBER_OF_RECORD),
-        Needed(Field::Cost, COST),
-        Needed(Field::Precedence, BodyKind::Precedence),
+        Needed(Field::No, BodyKind::NUMBER_OF_RECORD),
+        Needed(Field::Cost, BodyKind::COST),
+        Needed(Field::Precedence, BodyKind::PRECEDENCE),
     ],
     allowed: &[Field::No, Field::Cost, Field::Precedence],
 };
@@ -255,10 +241,10 @@ const UPDATED_TERMINATOR: BodyForm = BodyForm {
 // A circuit that is asked for, and a route that is claimed.
 const ASKED_CIRCUIT: BodyForm = BodyForm {
     rules: &[
-        Needed(Field::Identity, BodyKind::Name),
-        Needed(Field::Service, BodyKind::Name),
-        Optional(Field::Ingress, BodyKind::NameOrNone),
-        Optional(Field::Instance, BodyKind::Instance),
+        Needed(Field::Identity, BodyKind::NAME),
+        Needed(Field::Service, BodyKind::NAME),
+        Optional(Field::Ingress, BodyKind::NAME_OR_NONE),
+        Optional(Field::Instance, BodyKind::INSTANCE),
     ],
     allowed: &[
         Field::Identity,
@@ -270,16 +256,16 @@ const ASKED_CIRCUIT: BodyForm = BodyForm {
 
 const CLAIMED_ROUTE: BodyForm = BodyForm {
     rules: &[
-        Needed(Field::Identity, BodyKind::Name),
-        Needed(Field::Service, BodyKind::Name),
-        Optional(Field::Ingress, BodyKind::NameOrNone),
-        Optional(Field::Instance, BodyKind::Instance),
-        Needed(Field::Chosen, BodyKind::Name),
-        Needed(Field::Links, BodyKind::Numbers(LONGEST_PATH)),
-        Needed(Field::Potentials, BodyKind::Potentials),
-        Needed(Field::Routers, BodyKind::Numbers(MOST_ROUTERS)),
-        Needed(Field::Terminator, NUMBER_OF_RECORD),
-        Needed(Field::Total, TOTAL),
+        Needed(Field::Identity, BodyKind::NAME),
+        Needed(Field::Service, BodyKind::NAME),
+        Optional(Field::Ingress, BodyKind::NAME_OR_NONE),
+        Optional(Field::Instance, BodyKind::INSTANCE),
+        Needed(Field::Chosen, BodyKind::NAME),
+        Needed(Field::Links, BodyKind::PATH),
+        Needed(Field::Potentials, BodyKind::POTENTIALS),
+        Needed(Field::Routers, BodyKind::ROUTERS),
+        Needed(Field::Terminator, BodyKind::NUMBER_OF_RECORD),
+        Needed(Field::Total, BodyKind::TOTAL),
     ],
     allowed: &[
         Field::Identity,
@@ -298,10 +284,10 @@ const CLAIMED_ROUTE: BodyForm = BodyForm {
 // An intercept that is set, a destination whose service is picked, and a service whose clashes are listed.
 const CLAIM: BodyForm = BodyForm {
     rules: &[
-        Needed(Field::Service, BodyKind::Name),
-        Needed(Field::Protocols, BodyKind::Protocols),
-        Needed(Field::Addresses, BodyKind::Addresses),
-        Needed(Field::Ports, BodyKind::Ranges),
+        Needed(Field::Service, BodyKind::NAME),
+        Needed(Field::Protocols, BodyKind::PROTOCOLS),
+        Needed(Field::Addresses, BodyKind::ADDRESSES),
+        Needed(Field::Ports, BodyKind::RANGES),
     ],
     allowed: &[
         Field::Service,
@@ -313,10 +299,10 @@ const CLAIM: BodyForm = BodyForm {
 
 const DESTINATION: BodyForm = BodyForm {
     rules: &[
-        Needed(Field::Identity, BodyKind::Name),
-        Needed(Field::Protocol, BodyKind::Protocol),
-        Needed(Field::Address, BodyKind::Destination),
-        Needed(Field::Port, PORT),
+        Needed(Field::Identity, BodyKind::NAME),
+        Needed(Field::Protocol, BodyKind::PROTOCOL),
+        Needed(Field::Address, BodyKind::DESTINATION),
+        Needed(Field::Port, BodyKind::PORT),
     ],
     allowed: &[
         Field::Identity,
@@ -328,8 +314,8 @@ const DESTINATION: BodyForm = BodyForm {
 
 const CLASHES: BodyForm = BodyForm {
     rules: &[
-        Needed(Field::Identity, BodyKind::Name),
-        Needed(Field::Service, BodyKind::Name),
+        Needed(Field::Identity, BodyKind::NAME),
+        Needed(Field::Service, BodyKind::NAME),
     ],
     allowed: &[Field::Identity, Field::Service],
 };

@@ -3,7 +3,7 @@ ghost use Rattle.std.specs.Prelude.{◌≡◌, ◌<◌, ◌≤◌};
 ghost use Rattle.json_body.specs.FieldKinds.{object_of};
 ghost use Rattle.body_fields.specs.ReadResults.{Gives};
 ghost use Rattle.command_codec.specs.BodyMeaning.{given_under};
-ghost use Rattle.command_codec.specs.CommandForms.{circuit_rows, entity_rows, intercept_rows, link_rows, policy_rows, row_at, row_in, show_rows, terminator_rows};
+ghost use Rattle.ctrl_model.specs.CommandForms.{circuit_rows, entity_rows, intercept_rows, link_rows, policy_rows, row_at, row_in, show_rows, terminator_rows};
 
 use crate::attribute_lists::{attributes, attributes_or_none};
 use crate::content_types::{

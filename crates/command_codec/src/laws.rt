@@ -1,6 +1,6 @@
 ghost use Rattle.std.specs.Prelude.{◌≡◌, ◌↔◌, ℕ, List, Ok, Err, true};
 ghost use Rattle.ctrl_model.specs.declared.commands.Command.{Command};
-ghost use Rattle.ctrl_model.specs.CommandForm.{is_spelled};
+ghost use Rattle.ctrl_model.specs.SpelledCommands.{is_spelled};
 ghost use Rattle.command_codec.specs.declared.reading.CodecFault.{CodecFault};
 ghost use Rattle.command_codec.specs.declared.reading.CodecFault.TheVariants.{NoMemory};
 ghost use Rattle.command_codec.specs.BodyMeaning.{meaning};

@@ -11,6 +11,5 @@ mod reading;
 mod role_lists;
 
 pub use body_forms::fields_of;
-pub use body_kinds::BodyKind;
 pub use laws::{the_first_cause, what_a_body_spells};
 pub use reading::{CodecFault, read};

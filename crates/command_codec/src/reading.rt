@@ -1,10 +1,10 @@
 ghost use Rattle.std.specs.Prelude.{◌≡◌, ◌≢◌, ◌↔◌, ◌<◌, IfOk, IfErr, IsOk, IsErrOf, length, true, false, Some, Ok, Err, option_map};
 ghost use Rattle.serde_json.specs.View.{view};
-ghost use Rattle.ctrl_model.specs.CommandForm.{is_spelled};
+ghost use Rattle.ctrl_model.specs.SpelledCommands.{is_spelled};
 ghost use Rattle.json_body.specs.FieldKinds.{object_of};
 ghost use Rattle.body_fields.specs.ReadResults.{Gives};
 ghost use Rattle.command_codec.specs.BodyMeaning.{meaning, said_under, value_meaning};
-ghost use Rattle.command_codec.specs.CommandForms.{row_at};
+ghost use Rattle.ctrl_model.specs.CommandForms.{row_at};
 ghost use Rattle.command_codec.specs.FormRules.{form_asks, row_asks};
 
 use crate::body_forms::{BodyForm, form_of};

@@ -6,7 +6,7 @@ use Rattle.std.proofs.lemmas.Grind.{common_steps}
 use Rattle.std.specs.Prelude.{MatchOption, IfOk, ⊤}
 use Rattle.ctrl_model.specs.declared.kinds.Kind.{Kind}
 use Rattle.ctrl_model.specs.declared.kinds.Kind.TheVariants as kind
-use Rattle.ctrl_model.specs.CommandForm.{is_latency, is_link_cost}
+use Rattle.ctrl_model.specs.ValueForms.{is_latency, is_link_cost}
 use Rattle.ctrl_model.specs.NameForm.{is_name}
 use Rattle.ctrl_model.specs.Limits.{last_next, limit}
 use Rattle.ctrl_model.specs.State.{State, Link, Terminator, Circuit, link_named}

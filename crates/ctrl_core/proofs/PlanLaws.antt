@@ -9,7 +9,7 @@ use Rattle.ctrl_model.specs.declared.kinds.Relation.TheVariants.{Dial, Bind, Ide
 use Rattle.ctrl_model.specs.declared.replies.Reply.{Reply}
 use Rattle.ctrl_model.specs.State.{State}
 use Rattle.ctrl_model.specs.Grants.{count}
-use Rattle.ctrl_model.specs.CommandForm.{is_spelled}
+use Rattle.ctrl_model.specs.SpelledCommands.{is_spelled}
 use Rattle.ctrl_model.specs.Controller.{carry, counted}
 use Rattle.ctrl_model.specs.InterceptCommands.{is_intercept_command}
 use Rattle.ctrl_model.specs.ValidState.{ValidState}

@@ -1,6 +1,6 @@
 ghost use Rattle.std.specs.Prelude.{◌≡◌, ◌==◌, not, true, None, IfOk, is_some, option_map};
 ghost use Rattle.std.specs.List.{last_or};
-ghost use Rattle.ctrl_model.specs.CommandForm.{is_link_cost};
+ghost use Rattle.ctrl_model.specs.ValueForms.{is_link_cost};
 ghost use Rattle.ctrl_model.specs.Grants.{count};
 ghost use Rattle.ctrl_model.specs.InterceptForm.{is_intercept};
 ghost use Rattle.ctrl_model.specs.Numbered.{numbers};

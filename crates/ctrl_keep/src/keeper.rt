@@ -7,7 +7,7 @@ ghost use Rattle.ziti_outside.specs.Untouched.{OnlyDisk, OnlyReads};
 ghost use Rattle.journal_core.specs.Room.{empty_size, HoldsRoom};
 ghost use Rattle.slot_files.specs.FolderImage.{StandsAsBefore};
 ghost use Rattle.slot_files.specs.OpenedSlots.{Opens};
-ghost use Rattle.ctrl_model.specs.CommandForm.{is_spelled};
+ghost use Rattle.ctrl_model.specs.SpelledCommands.{is_spelled};
 ghost use Rattle.ctrl_model.specs.State.{State};
 ghost use Rattle.row_store.specs.StoredRows.{ReadsAs};
 ghost use Rattle.row_store.specs.OpenedRows.{OpensTo};

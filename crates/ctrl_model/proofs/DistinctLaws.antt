@@ -8,7 +8,7 @@ use Rattle.std.specs.List.{filter, flat_map, AllByRecursion, IsDistinct}
 use Rattle.std.specs.Set.{is_member, unique_keys, distinct_count}
 use Rattle.ctrl_model.specs.Membership.{Among}
 use Rattle.ctrl_model.specs.Matches.{has_name}
-use Rattle.ctrl_model.specs.CommandForm.{is_distinct}
+use Rattle.ctrl_model.specs.ValueForms.{is_distinct}
 use Rattle.ctrl_model.proofs.Members.{Among-append_left, Among-append_right, by_append, by_filter, by_flat_map, Among-flat_map, by_list_any}
 
 -- ---- names are the same where a test of their bytes says so

@@ -18,7 +18,13 @@ pub mod PlainPaths
 pub mod Choices
 pub mod Claims
 pub mod Settling
-pub mod CommandForm
+pub mod ValueForms
+pub mod ValueKinds
+pub mod BodyForms
+pub mod CommandForms
+pub mod ContentTypes
+pub mod CommandValues
+pub mod SpelledCommands
 pub mod Permitted
 pub mod Rules
 pub mod RecordCommands

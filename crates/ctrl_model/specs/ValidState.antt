@@ -8,7 +8,7 @@ use Rattle.ctrl_model.specs.declared.kinds.Side.{Side}
 use Rattle.ctrl_model.specs.declared.kinds.Relation.{Relation}
 use Rattle.ctrl_model.specs.declared.kinds.Relation.TheVariants.{IdentityRouter, ServiceRouter}
 use Rattle.ctrl_model.specs.NameForm.{is_name, is_instance}
-use Rattle.ctrl_model.specs.CommandForm.{are_attributes, is_stored_side, is_service_relation, is_cost, is_link_cost, is_latency}
+use Rattle.ctrl_model.specs.ValueForms.{are_attributes, is_stored_side, is_service_relation, is_cost, is_link_cost, is_latency}
 use Rattle.ctrl_model.specs.declared.intercepts.Intercept.{Intercept}
 use Rattle.ctrl_model.specs.InterceptForm.{is_intercept}
 use Rattle.ctrl_model.specs.Limits.{limit, last_next, last_serial}

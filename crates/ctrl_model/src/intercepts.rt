@@ -30,6 +30,13 @@ impl Copies for PortRange {
 /// A list of ranges of ports.
 pub type PortRanges = Items<PortRange>;
 
+/// The protocols of an intercept.
+#[derive(Clone, Copy)]
+pub struct ProtocolSet {
+    pub tcp: bool,
+    pub udp: bool,
+}
+
 /// What a service claims of the network (docs/RULES.md, "Intercepts"): protocols, addresses and ports.
 #[derive(Debug, Drop)]
 pub struct Intercept {

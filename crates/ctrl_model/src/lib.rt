@@ -14,12 +14,13 @@ mod numbering;
 mod refusals;
 mod replies;
 mod texts;
+mod value_kinds;
 
 pub use addresses::{Address, AddressFault, Addresses};
 pub use claims::{Explanation, Potentials, Reach, Reaches};
 pub use commands::Command;
 pub use formats::Format;
-pub use intercepts::{Intercept, PortRange, PortRanges};
+pub use intercepts::{Intercept, PortRange, PortRanges, ProtocolSet};
 pub use items::{Copies, Items};
 pub use kinds::{Kind, Precedence, Relation, Role, RouterSeen, Semantic, Side, Who};
 pub use limits::{
@@ -32,3 +33,4 @@ pub use numbering::{
 pub use refusals::{Denial, Field, Reason, Refusal};
 pub use replies::{Reply, Tallies, Tally};
 pub use texts::{Bytes, Instance, Name, NameFault, Names};
+pub use value_kinds::ValueKind;

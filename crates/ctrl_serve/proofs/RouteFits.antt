@@ -15,7 +15,7 @@ use Rattle.ctrl_model.specs.declared.replies.Reply.TheVariants.{Done, Refused, E
 use Rattle.ctrl_model.specs.Choices.{Ask, Candidate, best, first_rule}
 use Rattle.ctrl_model.specs.CircuitCommands.{decided, create_circuit, after_create_circuit, granted_reply, router_name, explain, shown_circuit}
 use Rattle.ctrl_model.specs.Claims.{no_path, least_cost, router_numbers, reach_of, carries, explained_routers, explanation_of}
-use Rattle.ctrl_model.specs.CommandForm.{are_attributes, is_cost, is_link_cost, is_latency, is_value}
+use Rattle.ctrl_model.specs.ValueForms.{are_attributes, is_cost, is_link_cost, is_latency, is_value}
 use Rattle.ctrl_model.specs.NameForm.{is_name}
 use Rattle.ctrl_model.specs.Networks.{Network, network_of, seen, is_on, link_cost, entry_cost, hops, is_path, path_cost, admissible}
 use Rattle.ctrl_model.specs.Numbered.{at, numbers}

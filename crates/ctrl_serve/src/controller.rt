@@ -4,7 +4,7 @@ ghost use Rattle.row_store.specs.StoredRows.{ReadsAs};
 ghost use Rattle.ctrl_keep.specs.KeptBatches.{Follows};
 ghost use Rattle.ctrl_keep.specs.KeptController.{HoldsRows, machine_of};
 ghost use Rattle.ctrl_keep.specs.KeptMachine.{step};
-ghost use Rattle.ctrl_model.specs.CommandForm.{is_spelled};
+ghost use Rattle.ctrl_model.specs.SpelledCommands.{is_spelled};
 ghost use Rattle.ctrl_model.specs.Controller.{answer, carry};
 ghost use Rattle.journal_core.specs.Room.{HoldsRoom};
 ghost use Rattle.ctrl_serve.specs.FrameAnswer.{alone, frame_answer, no_bounds, refusal_for};

@@ -3,7 +3,8 @@ use Rattle.std.proofs.Common.{◌≡◌, ℕ, ◌==◌, ◌&&◌, Bool, true, fa
 use Rattle.std.proofs.lemmas.Bool.{and_parts, and_from}
 use Rattle.std.specs.List.{list_all}
 use Rattle.std.specs.Option.{option_map, option_map_or}
-use Rattle.ctrl_model.specs.CommandForm.{are_attributes, is_cost, is_latency, is_link_cost, is_service_relation, is_side, is_spelled, is_stored_side}
+use Rattle.ctrl_model.specs.ValueForms.{are_attributes, is_cost, is_latency, is_link_cost, is_service_relation, is_side, is_stored_side}
+use Rattle.ctrl_model.specs.SpelledCommands.{is_spelled}
 use Rattle.ctrl_model.specs.declared.commands.Command.{Command}
 use Rattle.ctrl_model.specs.declared.commands.Command.TheVariants as command
 use Rattle.ctrl_model.specs.declared.intercepts.Intercept.{Intercept}

@@ -3,7 +3,7 @@
 use Rattle.std.specs.Prelude.{ℕ, ◌&&◌, Bool, true, false, not, cond, List, [], ◌∷◌, ◌++◌, codes}
 use Rattle.std.specs.List.{flat_map, list_all}
 use Rattle.std.specs.Option.{option_map, option_map_or}
-use Rattle.ctrl_model.specs.CommandForm.{is_spelled}
+use Rattle.ctrl_model.specs.SpelledCommands.{is_spelled}
 use Rattle.ctrl_model.specs.declared.commands.Command.{Command}
 use Rattle.ctrl_model.specs.declared.commands.Command.TheVariants as command
 use Rattle.ctrl_model.specs.declared.intercepts.Intercept.{Intercept}
@@ -14,7 +14,7 @@ use Rattle.ctrl_model.specs.declared.kinds.Semantic.TheVariants.{AnyOf}
 use Rattle.ctrl_model.specs.declared.kinds.Side.{Side}
 use Rattle.ctrl_model.specs.State.{State, Router, Link, Terminator}
 use Rattle.ctrl_model.specs.Tables.{Record, has_names}
-use Rattle.command_codec.specs.ContentTypes.{content_of}
+use Rattle.ctrl_model.specs.ContentTypes.{content_of}
 use Rattle.command_bodies.specs.BodyTexts.{body_text}
 use Rattle.frame_lines.specs.FrameLines.{body_words, name_or}
 use Rattle.frame_lines.specs.TypeNames.{name_numbered}

@@ -1,7 +1,8 @@
 -- What rows say of the commands that make records. Only private contracts cite these.
 use Rattle.std.specs.Prelude.{ℕ, ◌&&◌, ◌||◌, Bool, true, false, not, cond, List, [], ◌∷◌, ◌++◌, codes}
 use Rattle.std.specs.List.{flat_map}
-use Rattle.ctrl_model.specs.CommandForm.{is_service_relation, is_spelled}
+use Rattle.ctrl_model.specs.ValueForms.{is_service_relation}
+use Rattle.ctrl_model.specs.SpelledCommands.{is_spelled}
 use Rattle.ctrl_model.specs.declared.commands.Command.{Command}
 use Rattle.ctrl_model.specs.declared.commands.Command.TheVariants as command
 use Rattle.ctrl_model.specs.declared.kinds.Kind.{Kind}

@@ -7,7 +7,7 @@ use Rattle.ctrl_model.specs.declared.kinds.Relation.TheVariants.{Dial, IdentityR
 use Rattle.ctrl_model.specs.declared.kinds.Semantic.TheVariants.{AllOf, AnyOf}
 use Rattle.ctrl_model.specs.Numbered.{Table, no_rows}
 use Rattle.ctrl_model.specs.State.{State}
-use Rattle.command_codec.specs.ContentTypes.{content_of}
+use Rattle.ctrl_model.specs.ContentTypes.{content_of}
 use Rattle.command_bodies.specs.BodyTexts.{body_text}
 use Rattle.record_lines.specs.WorkedRecords.{all_side, connected_router, side_of, small_network}
 

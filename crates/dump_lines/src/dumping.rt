@@ -1,6 +1,6 @@
 ghost use Rattle.std.specs.Prelude.{◌≡◌, ◌++◌, [], cond, true, IfOk, OnOk};
 ghost use Rattle.std.specs.List.{flat_map, list_all};
-ghost use Rattle.ctrl_model.specs.CommandForm.{is_link_cost};
+ghost use Rattle.ctrl_model.specs.ValueForms.{is_link_cost};
 ghost use Rattle.ctrl_model.specs.declared.commands.Command.TheVariants as command;
 ghost use Rattle.ctrl_model.specs.ValidState.{ValidState};
 ghost use Rattle.state_building.specs.BuiltStates.{state_in};

@@ -1,5 +1,5 @@
 ghost use Rattle.std.specs.Prelude.{◌≡◌, ◌++◌, true, OnOk};
-ghost use Rattle.ctrl_model.specs.CommandForm.{is_spelled};
+ghost use Rattle.ctrl_model.specs.SpelledCommands.{is_spelled};
 ghost use Rattle.frame_lines.specs.FrameLines.{body_words, name_or};
 ghost use Rattle.frame_lines.specs.TypeNames.{name_numbered as name_of_type};
 ghost use Rattle.dump_lines.specs.Dumps.{command_line};

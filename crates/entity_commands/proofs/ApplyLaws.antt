@@ -7,7 +7,7 @@ use Rattle.std.specs.Option.{option_map}
 use Rattle.std.specs.declared.result.Result.{Result}
 use Rattle.ctrl_model.specs.declared.kinds.Kind.{Kind}
 use Rattle.ctrl_model.specs.declared.kinds.Kind.TheVariants as kind
-use Rattle.ctrl_model.specs.CommandForm.{is_cost, are_attributes}
+use Rattle.ctrl_model.specs.ValueForms.{is_cost, are_attributes}
 use Rattle.ctrl_model.specs.NameForm.{is_name}
 use Rattle.ctrl_model.specs.RecordCommands.{after_create}
 use Rattle.ctrl_model.specs.EntityCommands.{new_router as made_router}

@@ -1,6 +1,6 @@
 ghost use Rattle.std.specs.Prelude.{◌≡◌, true, false, [], Ok, OnOk};
 ghost use Rattle.ctrl_model.specs.declared.kinds.Kind.TheVariants as kind;
-ghost use Rattle.ctrl_model.specs.CommandForm.{is_cost};
+ghost use Rattle.ctrl_model.specs.ValueForms.{is_cost};
 ghost use Rattle.entity_store.specs.AttributeUses.{has_attribute_room};
 ghost use Rattle.entity_store.specs.EntityTables.{with_attributes, with_entity, with_router};
 ghost use Rattle.entity_store.specs.TableRules.{attributes_at, is_there, may_add};

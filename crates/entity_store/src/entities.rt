@@ -1,5 +1,5 @@
 ghost use Rattle.std.specs.Prelude.{◌≡◌, ◌≤◌, ⊤, true, [], IfOk, OnOk, OnErr, length, map, option_map, Ok};
-ghost use Rattle.ctrl_model.specs.CommandForm.{is_cost};
+ghost use Rattle.ctrl_model.specs.ValueForms.{is_cost};
 ghost use Rattle.ctrl_model.specs.Limits as limits;
 ghost use Rattle.ctrl_model.specs.Networks.{seen};
 ghost use Rattle.ctrl_model.specs.Numbered.{at, numbers};

@@ -4,7 +4,7 @@ use Rattle.std.proofs.lemmas.Bool.{and_parts, not-true, both_ways}
 use Rattle.std.proofs.lemmas.Option.{none-some, same_Some, slice_get_within}
 use Rattle.std.specs.Option.{option_map, option_map_or, option_and_then}
 use Rattle.ctrl_model.specs.declared.kinds.RouterSeen.{RouterSeen}
-use Rattle.ctrl_model.specs.CommandForm.{is_cost, is_link_cost, is_latency}
+use Rattle.ctrl_model.specs.ValueForms.{is_cost, is_link_cost, is_latency}
 use Rattle.ctrl_model.specs.Membership.{Among}
 use Rattle.ctrl_model.specs.Networks.{link_cost}
 use Rattle.ctrl_model.specs.State.{Link}

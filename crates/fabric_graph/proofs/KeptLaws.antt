@@ -3,7 +3,7 @@ use Rattle.std.proofs.Common.{◌≡◌, ℕ, ◌≤◌, ◌<◌, ◌==◌, nat_
 use Rattle.std.proofs.lemmas.Bool.{and_parts, and_from}
 use Rattle.std.proofs.lemmas.List.{length-map}
 use Rattle.std.specs.Bool.{⊤}
-use Rattle.ctrl_model.specs.CommandForm.{is_link_cost, is_latency}
+use Rattle.ctrl_model.specs.ValueForms.{is_link_cost, is_latency}
 use Rattle.ctrl_model.specs.Numbered.{Table, with_new, edit_at, without, with_removed}
 use Rattle.ctrl_model.specs.State.{Link, link_named}
 use Rattle.ctrl_model.proofs.NumberedLaws.{length-with_last, length-filter-le}

@@ -5,7 +5,7 @@ use Rattle.std.proofs.lemmas.List.{length-map}
 use Rattle.std.specs.List.{list_all}
 use Rattle.ctrl_model.specs.declared.kinds.Kind.TheVariants as kind
 use Rattle.ctrl_model.specs.declared.kinds.RouterSeen.{RouterSeen}
-use Rattle.ctrl_model.specs.CommandForm.{is_cost, are_attributes}
+use Rattle.ctrl_model.specs.ValueForms.{is_cost, are_attributes}
 use Rattle.ctrl_model.specs.NameForm.{is_name}
 use Rattle.ctrl_model.specs.Limits.{most_cost}
 use Rattle.ctrl_model.specs.Networks.{seen}

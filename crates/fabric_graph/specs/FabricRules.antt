@@ -4,7 +4,7 @@ use Rattle.std.specs.declared.result.Result.{Result}
 use Rattle.std.specs.Option.{ok_or, option_map}
 use Rattle.ctrl_model.specs.declared.kinds.Kind.TheVariants as kind
 use Rattle.ctrl_model.specs.declared.numbering.LinkNo.{LinkNo}
-use Rattle.ctrl_model.specs.CommandForm.{is_link_cost, is_latency}
+use Rattle.ctrl_model.specs.ValueForms.{is_link_cost, is_latency}
 use Rattle.ctrl_model.specs.Limits.{limit, last_next}
 use Rattle.ctrl_model.specs.Numbered.{is_present, Between}
 use Rattle.ctrl_model.specs.State.{Link, link_named}

@@ -1,7 +1,7 @@
 -- What a fabric keeps besides the order of its table: few links, each fit, and a setting in its range.
 use Rattle.std.specs.Prelude.{◌≡◌, ℕ, ◌≤◌, true, length}
 use Rattle.ctrl_model.specs.declared.kinds.Kind.TheVariants as kind
-use Rattle.ctrl_model.specs.CommandForm.{is_link_cost}
+use Rattle.ctrl_model.specs.ValueForms.{is_link_cost}
 use Rattle.ctrl_model.specs.Limits.{limit}
 use Rattle.ctrl_model.specs.Numbered.{Table}
 use Rattle.ctrl_model.specs.State.{Link}

@@ -3,7 +3,7 @@
 use Rattle.std.specs.Prelude.{◌≡◌, ℕ, ◌<◌, ◌≤◌, nat_le, Bool, true, false, List, [], length, map, slice_get, slice_index, Some}
 use Rattle.std.specs.List.{list_all}
 use Rattle.ctrl_model.specs.declared.kinds.RouterSeen.{RouterSeen}
-use Rattle.ctrl_model.specs.CommandForm.{is_cost}
+use Rattle.ctrl_model.specs.ValueForms.{is_cost}
 use Rattle.ctrl_model.specs.Mirrors.{Mirrors}
 use Rattle.ctrl_model.specs.Networks.{Network, hops, is_on}
 use Rattle.ctrl_model.specs.Numbered.{Between, no_rows}

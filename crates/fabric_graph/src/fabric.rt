@@ -1,7 +1,7 @@
 ghost use Rattle.std.specs.Prelude.{◌≡◌, ◌+◌, ◌<◌, ◌≤◌, ℕ, true, length, map, filter, IfOk, OnOk, OnErr, Ok};
 ghost use Rattle.std.specs.List.{list_all};
 ghost use Rattle.std.specs.Option.{option_map};
-ghost use Rattle.ctrl_model.specs.CommandForm.{is_link_cost, is_latency};
+ghost use Rattle.ctrl_model.specs.ValueForms.{is_link_cost, is_latency};
 ghost use Rattle.ctrl_model.specs.declared.kinds.Kind.TheVariants as kind;
 ghost use Rattle.ctrl_model.specs.Limits as limits;
 ghost use Rattle.ctrl_model.specs.Mirrors.{Mirrors};

@@ -9,7 +9,7 @@ use Rattle.ctrl_model.specs.declared.refusals.Field.TheVariants as field
 use Rattle.ctrl_model.specs.declared.refusals.Refusal.{Refusal}
 use Rattle.ctrl_model.specs.declared.refusals.Refusal.TheVariants as refusal
 use Rattle.ctrl_model.specs.declared.replies.Reply.TheVariants.{Made}
-use Rattle.ctrl_model.specs.CommandForm.{is_link_cost, is_latency}
+use Rattle.ctrl_model.specs.ValueForms.{is_link_cost, is_latency}
 use Rattle.ctrl_model.specs.LinkCommands.{create_link, after_create_link, refusal_of_create_link}
 use Rattle.ctrl_model.specs.Numbered.{at, with_new}
 use Rattle.ctrl_model.specs.Rules.{or_then, refuse_if, unknown_if_absent, exists_if_present, at_number}

@@ -9,7 +9,7 @@ use Rattle.ctrl_model.specs.declared.refusals.Field.TheVariants as field
 use Rattle.ctrl_model.specs.declared.refusals.Refusal.{Refusal}
 use Rattle.ctrl_model.specs.declared.replies.Reply.{Reply}
 use Rattle.ctrl_model.specs.declared.replies.Reply.TheVariants.{Done}
-use Rattle.ctrl_model.specs.CommandForm.{is_link_cost, is_latency}
+use Rattle.ctrl_model.specs.ValueForms.{is_link_cost, is_latency}
 use Rattle.ctrl_model.specs.NameForm.{is_name}
 use Rattle.ctrl_model.specs.LinkCommands.{is_end_of, with_latency, refusal_of_report, set_link_cost, report_latency, report_state, delete_link, set_least_router_cost, after_set_link_cost, after_report_latency, after_report_state}
 use Rattle.ctrl_model.specs.Numbered.{at, edit_at, with_edit, with_removed, Between}

@@ -1,6 +1,6 @@
 -- What a command on links changes, in the links themselves and in a state (docs/PROMISES.md, "Commands on links").
 use Rattle.std.specs.Prelude.{◌≡◌, true, Ok}
-use Rattle.ctrl_model.specs.CommandForm.{is_link_cost, is_latency}
+use Rattle.ctrl_model.specs.ValueForms.{is_link_cost, is_latency}
 use Rattle.ctrl_model.specs.State.{State}
 use Rattle.entity_store.specs.EntityTables.{Tables}
 use Rattle.fabric_graph.specs.FabricChanges.{after_link_change}

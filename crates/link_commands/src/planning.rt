@@ -1,5 +1,6 @@
 ghost use Rattle.std.specs.Prelude.{◌≡◌, ◌==◌, true, false, cond, None, Some, IfOk, IfErr, OnErr, MatchOption};
-ghost use Rattle.ctrl_model.specs.CommandForm.{is_spelled, is_link_cost, is_latency};
+ghost use Rattle.ctrl_model.specs.SpelledCommands.{is_spelled};
+ghost use Rattle.ctrl_model.specs.ValueForms.{is_link_cost, is_latency};
 ghost use Rattle.ctrl_model.specs.Controller.{carry};
 ghost use Rattle.ctrl_model.specs.LinkCommands.{create_link, set_link_cost, report_latency, report_state, delete_link, set_least_router_cost};
 ghost use Rattle.ctrl_model.specs.State.{State, link_named, router_named};

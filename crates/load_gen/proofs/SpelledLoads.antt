@@ -3,7 +3,7 @@ use Rattle.std.proofs.Common.{◌≡◌, ℕ, ◌+◌, ◌<◌, ◌^◌, ◌==�
 use Rattle.std.proofs.lemmas.Bool.{and_from}
 use Rattle.ctrl_model.specs.NameForm.{is_name}
 use Rattle.ctrl_model.specs.Matches.{has_name}
-use Rattle.ctrl_model.specs.CommandForm.{is_distinct, are_names, are_attributes, is_stored_side, is_side, is_service_relation, is_cost, is_link_cost}
+use Rattle.ctrl_model.specs.ValueForms.{is_distinct, are_names, are_attributes, is_stored_side, is_side, is_service_relation, is_cost, is_link_cost}
 use Rattle.ctrl_model.specs.declared.kinds.Relation.TheVariants.{Dial, Bind}
 use Rattle.load_gen.specs.LoadCommands.{numbered, two_attributes, with_attributes}
 use Rattle.load_gen.proofs.NumberedNames.{is_name-numbered}

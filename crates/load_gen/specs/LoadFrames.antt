@@ -4,7 +4,7 @@ use Rattle.std.specs.Prelude.{◌≡◌, ℕ, ◌+◌, ⊤, List, [], ◌∷◌,
 use Rattle.channel_frame.specs.declared.frames.Frame.{Frame}
 use Rattle.ctrl_model.specs.declared.commands.Command.{Command}
 use Rattle.command_codec.specs.BodyMeaning.{meaning}
-use Rattle.command_codec.specs.ContentTypes.{content_of}
+use Rattle.ctrl_model.specs.ContentTypes.{content_of}
 use Rattle.command_bodies.specs.BodyTexts.{body_text}
 use Rattle.load_gen.specs.LoadCommands.{load_commands}
 

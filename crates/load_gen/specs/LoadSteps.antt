@@ -2,7 +2,7 @@
 use Rattle.std.specs.Prelude.{◌≡◌, true, List, [], ◌∷◌, ◌++◌, length}
 use Rattle.rand_pcg.specs.Lcg.{Lcg}
 use Rattle.channel_frame.specs.declared.frames.Frame.{Frame}
-use Rattle.ctrl_model.specs.CommandForm.{is_spelled}
+use Rattle.ctrl_model.specs.SpelledCommands.{is_spelled}
 use Rattle.ctrl_model.specs.declared.commands.Command.{Command}
 use Rattle.load_gen.specs.Draws.{Drawn}
 use Rattle.load_gen.specs.LoadFrames.{frames_from, AreMeant}

@@ -1,8 +1,8 @@
 ghost use Rattle.std.specs.Prelude.{◌≡◌, ◌+◌, ◌<◌, ◌&&◌, ◌∷◌, [], nat_le, length, IfOk, OnOk, Ok, true};
-ghost use Rattle.ctrl_model.specs.CommandForm.{is_spelled};
+ghost use Rattle.ctrl_model.specs.SpelledCommands.{is_spelled};
 ghost use Rattle.ctrl_model.specs.NameForm.{is_name};
 ghost use Rattle.command_codec.specs.BodyMeaning.{meaning};
-ghost use Rattle.command_codec.specs.ContentTypes.{content_of};
+ghost use Rattle.ctrl_model.specs.ContentTypes.{content_of};
 ghost use Rattle.command_bodies.specs.BodyTexts.{body_text};
 ghost use Rattle.load_gen.specs.Draws.{draw};
 ghost use Rattle.load_gen.specs.LoadCommands.{numbered};

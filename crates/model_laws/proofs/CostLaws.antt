@@ -6,7 +6,7 @@ use Rattle.std.specs.List.{list_all}
 use Rattle.ctrl_model.specs.declared.kinds.Kind.TheVariants as kind
 use Rattle.ctrl_model.specs.declared.kinds.RouterSeen.{RouterSeen}
 use Rattle.ctrl_model.specs.NameForm.{is_name}
-use Rattle.ctrl_model.specs.CommandForm.{are_attributes, is_cost, is_link_cost, is_latency}
+use Rattle.ctrl_model.specs.ValueForms.{are_attributes, is_cost, is_link_cost, is_latency}
 use Rattle.ctrl_model.specs.State.{State, Router, Link}
 use Rattle.ctrl_model.specs.Walks.{goes}
 use Rattle.ctrl_model.specs.Networks.{Network, is_on, link_cost, entry_cost, hops, is_path, path_cost, seen, network_of}

@@ -7,7 +7,7 @@ use Rattle.ctrl_model.specs.declared.intercepts.Intercept.{Intercept}
 use Rattle.ctrl_model.specs.declared.kinds.Kind.{Kind}
 use Rattle.ctrl_model.specs.declared.kinds.Kind.TheVariants as kind
 use Rattle.ctrl_model.specs.declared.kinds.Who.{Who}
-use Rattle.ctrl_model.specs.CommandForm.{is_spelled}
+use Rattle.ctrl_model.specs.SpelledCommands.{is_spelled}
 use Rattle.ctrl_model.specs.Controller.{answer, counted, numbered}
 use Rattle.ctrl_model.specs.InterceptCommands.{is_intercept_command}
 use Rattle.ctrl_model.specs.Limits.{last_serial}

@@ -11,7 +11,7 @@ use Rattle.ctrl_model.specs.NameForm.{is_name}
 use Rattle.ctrl_model.specs.Numbered.{at}
 use Rattle.ctrl_model.specs.State.{State, Router, Link}
 use Rattle.ctrl_model.specs.Tables.{table, named}
-use Rattle.ctrl_model.specs.CommandForm.{is_link_cost, is_latency}
+use Rattle.ctrl_model.specs.ValueForms.{is_link_cost, is_latency}
 use Rattle.ctrl_model.specs.Rules.{unknown_if_absent}
 use Rattle.ctrl_model.specs.RecordCommands.{after_edit}
 use Rattle.ctrl_model.specs.LinkCommands.{create_link, after_create_link, refusal_of_create_link, set_link_cost, after_set_link_cost, refusal_of_report, with_latency, report_latency, after_report_latency, report_state, after_report_state, set_least_router_cost}

@@ -10,7 +10,7 @@ use Rattle.ctrl_model.specs.NameForm.{is_name}
 use Rattle.ctrl_model.specs.Matches.{is_nothing}
 use Rattle.ctrl_model.specs.Numbered.{at, with_last, edit_at, without, first_where, Between}
 use Rattle.ctrl_model.specs.State.{Policy}
-use Rattle.ctrl_model.specs.CommandForm.{is_stored_side, are_names}
+use Rattle.ctrl_model.specs.ValueForms.{is_stored_side, are_names}
 use Rattle.ctrl_model.specs.ValidState.{are_found, is_valid_policy}
 use Rattle.ctrl_model.specs.Rules.{without_name, forget_left, forget_right}
 use Rattle.ctrl_model.proofs.NumberedLaws.{at-without, at-with_last, Found, first_where-found, found_too, length-filter-le, at-past, at-within, first_where-map}

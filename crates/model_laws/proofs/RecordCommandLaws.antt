@@ -17,7 +17,7 @@ use Rattle.ctrl_model.specs.Limits.{limit}
 use Rattle.ctrl_model.specs.Numbered.{with_edit}
 use Rattle.ctrl_model.specs.State.{State, Router, Policy}
 use Rattle.ctrl_model.specs.Tables.{Record, table, record_name, named, left_kind, right_kind}
-use Rattle.ctrl_model.specs.CommandForm.{are_attributes, is_cost, is_side, is_stored_side}
+use Rattle.ctrl_model.specs.ValueForms.{are_attributes, is_cost, is_side, is_stored_side}
 use Rattle.ctrl_model.specs.Rules.{unknown_if_absent}
 use Rattle.ctrl_model.specs.RecordCommands.{first_absent, roles_of, absent_names, absent_in, refusal_of_create, create, after_create, refusal_of_update, update, after_update, delete, after_delete, after_edit}
 use Rattle.ctrl_model.specs.EntityCommands.{described, described_router, marked, update_identity, update_service, update_router, mark_router}

@@ -10,7 +10,7 @@ use Rattle.ctrl_model.specs.Limits.{limit}
 use Rattle.ctrl_model.specs.NameForm.{is_instance}
 use Rattle.ctrl_model.specs.State.{State, Terminator}
 use Rattle.ctrl_model.specs.Tables.{table, named}
-use Rattle.ctrl_model.specs.CommandForm.{is_cost}
+use Rattle.ctrl_model.specs.ValueForms.{is_cost}
 use Rattle.ctrl_model.specs.Rules.{unknown_if_absent, refuse_if}
 use Rattle.ctrl_model.specs.RecordCommands.{after_remove}
 use Rattle.ctrl_model.specs.TerminatorCommands.{host_number, is_host_absent, create_terminator, after_create_terminator, refusal_of_create_terminator, no_such_terminator, update_terminator, after_update_terminator, delete_terminator}

@@ -17,7 +17,8 @@ use Rattle.ctrl_model.specs.declared.replies.Reply.{Reply}
 use Rattle.ctrl_model.specs.declared.replies.Reply.TheVariants.{Refused}
 use Rattle.ctrl_model.specs.NameForm.{is_name, is_instance}
 use Rattle.ctrl_model.specs.State.{State, Policy}
-use Rattle.ctrl_model.specs.CommandForm.{is_spelled, is_service_relation, is_side, is_number, is_cost, is_link_cost, is_latency, is_name_or_none}
+use Rattle.ctrl_model.specs.SpelledCommands.{is_spelled}
+use Rattle.ctrl_model.specs.ValueForms.{is_service_relation, is_side, is_number, is_cost, is_link_cost, is_latency, is_name_or_none}
 use Rattle.ctrl_model.specs.InterceptForm.{is_intercept}
 use Rattle.ctrl_model.specs.Rules.{shown}
 use Rattle.ctrl_model.specs.Networks.{network_of}

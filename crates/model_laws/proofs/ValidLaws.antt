@@ -15,7 +15,7 @@ use Rattle.ctrl_model.specs.Networks.{network_of}
 use Rattle.ctrl_model.specs.Numbered.{Table, at, is_present, with_last, without, with_new, with_edit, with_removed, first_where, Between}
 use Rattle.ctrl_model.specs.State.{State, Entity}
 use Rattle.ctrl_model.specs.Tables.{Record, table, with_table, is_entity_kind, has_names, record_name, named}
-use Rattle.ctrl_model.specs.CommandForm.{is_link_cost}
+use Rattle.ctrl_model.specs.ValueForms.{is_link_cost}
 use Rattle.ctrl_model.specs.Settling.{settle, revoke, repair, granted_in, link_stays, terminator_stays, stays_in, rerouted, settle_links, settle_terminators, reroute_circuits}
 use Rattle.ctrl_model.specs.Rules.{carried_out, at_number, attributes_full, attributes_in_use, side_attributes, forget_left, forget_right}
 use Rattle.ctrl_model.specs.RecordCommands.{after_create, after_edit, after_remove, forgotten, without_intercept}

@@ -2,7 +2,7 @@ ghost use Rattle.std.specs.Prelude.{◌≡◌, ◌<◌, true};
 ghost use Rattle.ctrl_model.specs.declared.commands.Command.{Command};
 ghost use Rattle.ctrl_model.specs.declared.kinds.Who.{Who};
 ghost use Rattle.ctrl_model.specs.State.{State, start};
-ghost use Rattle.ctrl_model.specs.CommandForm.{is_spelled};
+ghost use Rattle.ctrl_model.specs.SpelledCommands.{is_spelled};
 ghost use Rattle.ctrl_model.specs.Controller.{answer, numbered};
 ghost use Rattle.ctrl_model.specs.Limits.{last_serial};
 ghost use Rattle.ctrl_model.specs.ValidState.{ValidState};

@@ -5,7 +5,7 @@ ghost use Rattle.ctrl_model.specs.declared.kinds.Who.TheVariants.{Admin, Identit
 ghost use Rattle.ctrl_model.specs.declared.refusals.Field.TheVariants as field;
 ghost use Rattle.ctrl_model.specs.declared.refusals.Refusal.TheVariants as refusal;
 ghost use Rattle.ctrl_model.specs.declared.replies.Reply.TheVariants as reply;
-ghost use Rattle.ctrl_model.specs.CommandForm.{is_spelled};
+ghost use Rattle.ctrl_model.specs.SpelledCommands.{is_spelled};
 ghost use Rattle.ctrl_model.specs.InterceptCommands.{is_intercept_command};
 ghost use Rattle.ctrl_model.specs.Numbered.{numbers};
 ghost use Rattle.ctrl_model.specs.Permitted.{is_permitted};

@@ -7,7 +7,8 @@ use Rattle.ctrl_model.specs.declared.kinds.Kind.{Kind}
 use Rattle.ctrl_model.specs.declared.kinds.Relation.{Relation}
 use Rattle.ctrl_model.specs.declared.kinds.Semantic.{Semantic}
 use Rattle.ctrl_model.specs.declared.kinds.Side.{Side}
-use Rattle.ctrl_model.specs.CommandForm.{is_side, is_spelled, is_stored_side, is_service_relation}
+use Rattle.ctrl_model.specs.ValueForms.{is_side, is_stored_side, is_service_relation}
+use Rattle.ctrl_model.specs.SpelledCommands.{is_spelled}
 use Rattle.ctrl_model.specs.declared.refusals.Field.TheVariants as field
 use Rattle.ctrl_model.specs.Controller.{carry, policy}
 use Rattle.ctrl_model.specs.Matches.{is_nothing}

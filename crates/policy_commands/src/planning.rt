@@ -1,5 +1,5 @@
 ghost use Rattle.std.specs.Prelude.{◌≡◌, ◌<◌, ◌||◌, true, false, IfOk, OnErr, Err, MatchOption, length, slice_index_or, []};
-ghost use Rattle.ctrl_model.specs.CommandForm.{is_spelled};
+ghost use Rattle.ctrl_model.specs.SpelledCommands.{is_spelled};
 ghost use Rattle.ctrl_model.specs.Controller.{carry};
 ghost use Rattle.ctrl_model.specs.RecordCommands.{delete};
 ghost use Rattle.ctrl_model.specs.State.{State};

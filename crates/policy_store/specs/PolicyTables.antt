@@ -5,7 +5,7 @@ use Rattle.ctrl_model.specs.declared.kinds.Kind.{Kind}
 use Rattle.ctrl_model.specs.declared.kinds.Kind.TheVariants as kind
 use Rattle.ctrl_model.specs.declared.kinds.Relation.{Relation}
 use Rattle.ctrl_model.specs.declared.kinds.Relation.TheVariants.{IdentityRouter, ServiceRouter}
-use Rattle.ctrl_model.specs.CommandForm.{is_service_relation}
+use Rattle.ctrl_model.specs.ValueForms.{is_service_relation}
 use Rattle.ctrl_model.specs.Grants.{same_relation}
 use Rattle.ctrl_model.specs.Numbered.{Table, no_rows, with_new, with_edit, with_removed, with_each}
 use Rattle.ctrl_model.specs.PolicyCommands.{replaced_by}

@@ -1,6 +1,6 @@
 ghost use Rattle.std.specs.Prelude.{◌≡◌, ◌==◌, ◌+◌, ◌||◌, ◌&&◌, true, not, nat_le, length};
 ghost use Rattle.ctrl_model.specs.declared.formats.Format.{Format};
-ghost use Rattle.ctrl_model.specs.CommandForm.{are_attributes, is_distinct, is_stored_side, is_cost, is_link_cost, is_latency};
+ghost use Rattle.ctrl_model.specs.ValueForms.{are_attributes, is_distinct, is_stored_side, is_cost, is_link_cost, is_latency};
 ghost use Rattle.ctrl_model.specs.Matches.{has_name, is_nothing};
 ghost use Rattle.row_codec.specs.RowForm.{is_row, are_listed, is_listed_side};
 ghost use Rattle.record_flaws.specs.SoundRows as sound;

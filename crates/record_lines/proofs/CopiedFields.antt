@@ -21,7 +21,7 @@ use Rattle.ctrl_model.specs.declared.commands.Command.TheVariants as command
 use Rattle.ctrl_model.specs.declared.intercepts.Intercept.{Intercept}
 use Rattle.ctrl_model.specs.declared.intercepts.PortRange.{PortRange}
 use Rattle.ctrl_model.specs.AddressForm.{address_text, ip_text, is_address, is_host, is_label_byte, same_address}
-use Rattle.ctrl_model.specs.InterceptForm.{is_claim, is_intercept, is_port_range, is_without_repeats, same_ports}
+use Rattle.ctrl_model.specs.InterceptForm.{is_claim, is_intercept, is_port_range, same_ports}
 use Rattle.ctrl_model.specs.NameForm.{is_name, is_name_byte}
 use Rattle.ctrl_model.proofs.AddressLaws.{IsMade, made, own_spelling}
 use Rattle.ctrl_model.proofs.HostTexts.{host_lacks}
@@ -29,6 +29,7 @@ use Rattle.ctrl_model.proofs.RangeTexts.{whole_pieces}
 use Rattle.command_bodies.specs.BodyTexts.{body_text}
 use Rattle.command_bodies.specs.WrittenFields.{list_of, natural, two_ports}
 use Rattle.command_bodies.specs.WrittenWords.{protocol_words}
+use Rattle.command_bodies.proofs.WrittenIntercepts.{claimed_forms}
 use Rattle.record_lines.specs.RecordWords.{addresses_word, behind_commas, list_word, ports_word, protocols_word, quoted_word, range_word}
 
 -- ---- bytes that are not escaped
@@ -161,13 +162,6 @@ range_written r = list_written natural decimal (λ n. true) (λ n h. refl) (r.lo
 
 ranges_written : (rs : List PortRange) → list_all is_port_range rs ≡ true → compact_text (list_of two_ports rs) ≡ list_word range_word rs
 ranges_written rs h = list_written two_ports range_word is_port_range (λ r e. range_written r) rs h
-
--- the form of each thing of a claim
-claimed_forms : {A : Type 0} (form : A → Bool) (same : A → A → Bool) (xs : List A) → is_claim form same xs ≡ true → list_all form xs ≡ true
-claimed_forms form same xs h =
-    let p = and_parts (nat_le 1 (length xs)) (nat_le (length xs) 32 && (list_all form xs && is_without_repeats same xs)) h in
-    let q = and_parts (nat_le (length xs) 32) (list_all form xs && is_without_repeats same xs) p.1 in
-    (and_parts (list_all form xs) (is_without_repeats same xs) q.1).0
 
 -- four fields in their places
 abbrev body_with : List ℕ → List ℕ → List ℕ → List ℕ → List ℕ

@@ -10,7 +10,7 @@ use Rattle.serde_json.specs.Data.{Data, null, string}
 use Rattle.serde_json.specs.View.{items_of}
 use Rattle.serde_json.specs.Written.{comma_if, compact_text, items_text}
 use Rattle.ctrl_model.specs.Claims.{no_path}
-use Rattle.ctrl_model.specs.CommandForm.{is_value}
+use Rattle.ctrl_model.specs.ValueForms.{is_value}
 use Rattle.reply_codec.specs.ReplyBody.{natural, cost_or_null}
 
 -- a number below 2 ^ 32 has at most 10 digits

@@ -2,7 +2,7 @@
 use Rattle.std.specs.Prelude.{Bool, true, ◌&&◌, nat_le, length}
 use Rattle.std.specs.List.{list_all}
 use Rattle.ctrl_model.specs.AddressForm.{is_spelling}
-use Rattle.ctrl_model.specs.CommandForm.{is_value}
+use Rattle.ctrl_model.specs.ValueForms.{is_value}
 use Rattle.ctrl_model.specs.declared.claims.Explanation.{Explanation}
 use Rattle.ctrl_model.specs.declared.claims.Reach.{Reach}
 use Rattle.ctrl_model.specs.declared.replies.Reply.{Reply}

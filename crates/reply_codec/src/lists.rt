@@ -4,7 +4,7 @@ ghost use Rattle.serde_json.specs.Data.{array, string};
 ghost use Rattle.serde_json.specs.View.{view, items_of};
 ghost use Rattle.serde_json.specs.Written.{compact_text};
 ghost use Rattle.ctrl_model.specs.AddressForm.{is_spelling};
-ghost use Rattle.ctrl_model.specs.CommandForm.{is_value};
+ghost use Rattle.ctrl_model.specs.ValueForms.{is_value};
 ghost use Rattle.reply_codec.specs.ReplyBody.{natural, naturals, strings, tally_array, tally_arrays, cost_or_null, reach_object, reach_objects};
 ghost use Rattle.reply_codec.specs.ReplyLimits.{is_short_reach};
 

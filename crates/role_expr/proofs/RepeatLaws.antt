@@ -7,7 +7,7 @@ use Rattle.std.proofs.lemmas.List.{append-nil}
 use Rattle.std.proofs.lemmas.List.Elements.{filter-append}
 use Rattle.ctrl_model.specs.NameForm.{is_name}
 use Rattle.ctrl_model.specs.Matches.{has_name}
-use Rattle.ctrl_model.specs.CommandForm.{is_distinct}
+use Rattle.ctrl_model.specs.ValueForms.{is_distinct}
 use Rattle.ctrl_model.proofs.DistinctLaws.{same_name, same_bytes, is_distinct-filter}
 use Rattle.ctrl_model.proofs.NumberedLaws.{length-filter-le}
 use Rattle.ctrl_model.proofs.TableLaws.{list_all-filter}

@@ -13,7 +13,7 @@ use Rattle.ctrl_model.specs.declared.kinds.Semantic.{Semantic}
 use Rattle.ctrl_model.specs.declared.kinds.Relation.{Relation}
 use Rattle.ctrl_model.specs.declared.kinds.Relation.TheVariants.{Dial, Bind, IdentityRouter, ServiceRouter}
 use Rattle.ctrl_model.specs.NameForm.{is_name, is_instance}
-use Rattle.ctrl_model.specs.CommandForm.{is_service_relation}
+use Rattle.ctrl_model.specs.ValueForms.{is_service_relation}
 use Rattle.ctrl_model.specs.InterceptForm.{is_intercept}
 use Rattle.ctrl_model.specs.Limits.{most_entries, longest_path}
 use Rattle.ctrl_model.specs.State.{Policy, start}

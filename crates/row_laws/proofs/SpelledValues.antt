@@ -23,7 +23,7 @@ use Rattle.ctrl_model.specs.AddressForm.{address_of, address_text, is_address, s
 use Rattle.ctrl_model.specs.InterceptForm.{is_claim, is_intercept, is_port_range, is_without_repeats, same_ports}
 use Rattle.ctrl_model.proofs.AddressLaws.{own_spelling}
 use Rattle.ctrl_model.specs.NameForm.{is_name, is_instance}
-use Rattle.ctrl_model.specs.CommandForm.{is_service_relation}
+use Rattle.ctrl_model.specs.ValueForms.{is_service_relation}
 use Rattle.ctrl_model.specs.State.{Entity, Router, Link, Policy, Terminator, Circuit}
 use Rattle.ctrl_model.specs.Tables.{Record}
 use Rattle.ctrl_model.specs.ValidState.{may_relate}

@@ -9,7 +9,7 @@ use Rattle.ctrl_model.specs.declared.kinds.Side.{Side}
 use Rattle.ctrl_model.specs.declared.kinds.RouterSeen.{RouterSeen}
 use Rattle.ctrl_model.specs.Membership.{Among}
 use Rattle.ctrl_model.specs.NameForm.{is_name, is_instance}
-use Rattle.ctrl_model.specs.CommandForm.{are_names, are_attributes, is_stored_side, is_distinct, is_cost, is_link_cost, is_latency}
+use Rattle.ctrl_model.specs.ValueForms.{are_names, are_attributes, is_stored_side, is_distinct, is_cost, is_link_cost, is_latency}
 use Rattle.ctrl_model.specs.Limits.{last_next}
 use Rattle.ctrl_model.specs.Numbered.{at, is_present, Between, map_each, numbers}
 use Rattle.ctrl_model.specs.State.{State, Router, Link, Policy, Terminator, Circuit}

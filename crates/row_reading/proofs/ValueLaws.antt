@@ -16,7 +16,7 @@ use Rattle.ctrl_model.specs.declared.formats.Format.TheVariants.{One, Two}
 use Rattle.ctrl_model.specs.declared.intercepts.Intercept.{Intercept}
 use Rattle.ctrl_model.specs.declared.intercepts.PortRange.{PortRange}
 use Rattle.ctrl_model.proofs.AddressLaws.{address_given, own_spelling, spelled_as, text_short}
-use Rattle.ctrl_model.specs.CommandForm.{is_service_relation}
+use Rattle.ctrl_model.specs.ValueForms.{is_service_relation}
 use Rattle.ctrl_model.specs.declared.kinds.Side.{Side}
 use Rattle.ctrl_model.specs.declared.kinds.Semantic.{Semantic}
 use Rattle.ctrl_model.specs.declared.kinds.Semantic.TheVariants.{AnyOf, AllOf}

@@ -6,7 +6,7 @@ use Rattle.ctrl_model.specs.Limits.{last_next}
 use Rattle.ctrl_model.specs.Numbered.{Table, with_last, with_new}
 use Rattle.ctrl_model.specs.State.{State, start}
 use Rattle.ctrl_model.specs.Tables.{Record, table}
-use Rattle.ctrl_model.specs.CommandForm.{is_link_cost}
+use Rattle.ctrl_model.specs.ValueForms.{is_link_cost}
 use Rattle.ctrl_model.specs.ValidState.{ValidState, ValidTable}
 use Rattle.ctrl_model.proofs.TableLaws.{valid-none}
 use Rattle.ctrl_model.specs.declared.intercepts.Intercept.{Intercept}

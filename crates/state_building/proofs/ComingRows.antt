@@ -11,7 +11,7 @@ use Rattle.ctrl_model.specs.Limits.{last_next, last_serial}
 use Rattle.ctrl_model.specs.Numbered.{at, is_present, with_last, Between}
 use Rattle.ctrl_model.specs.State.{State}
 use Rattle.ctrl_model.specs.Tables.{Record, table}
-use Rattle.ctrl_model.specs.CommandForm.{is_link_cost}
+use Rattle.ctrl_model.specs.ValueForms.{is_link_cost}
 use Rattle.ctrl_model.specs.ValidState.{ValidState, ValidTable, is_valid_intercept}
 use Rattle.ctrl_model.proofs.NumberedLaws.{at-within, by_is_some}
 use Rattle.ctrl_model.proofs.TableLaws.{valid-more}

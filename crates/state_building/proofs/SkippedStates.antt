@@ -6,7 +6,7 @@ use Rattle.ctrl_model.specs.Limits.{last_next}
 use Rattle.ctrl_model.specs.Numbered.{Table}
 use Rattle.ctrl_model.specs.State.{State}
 use Rattle.ctrl_model.specs.Tables.{Record, table}
-use Rattle.ctrl_model.specs.CommandForm.{is_link_cost}
+use Rattle.ctrl_model.specs.ValueForms.{is_link_cost}
 use Rattle.ctrl_model.specs.ValidState.{ValidState, ValidTable, is_valid}
 use Rattle.ctrl_model.proofs.NumberedLaws.{Between-more}
 use Rattle.ctrl_model.proofs.TableLaws.{valid-none, valid-more, each_passes-more}

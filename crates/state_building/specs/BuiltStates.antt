@@ -5,7 +5,7 @@ use Rattle.std.specs.declared.option.Option.{Option}
 use Rattle.std.specs.Option.{unwrap_or}
 use Rattle.ctrl_model.specs.declared.kinds.Kind.{Kind}
 use Rattle.ctrl_model.specs.declared.kinds.Relation.{Relation}
-use Rattle.ctrl_model.specs.CommandForm.{is_link_cost}
+use Rattle.ctrl_model.specs.ValueForms.{is_link_cost}
 use Rattle.ctrl_model.specs.State.{State, start}
 use Rattle.ctrl_model.specs.Grants.{count, same_relation}
 use Rattle.row_codec.specs.declared.rows.Row.{Row}

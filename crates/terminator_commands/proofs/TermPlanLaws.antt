@@ -13,7 +13,7 @@ use Rattle.ctrl_model.specs.declared.refusals.Field.TheVariants as field
 use Rattle.ctrl_model.specs.declared.refusals.Refusal.{Refusal}
 use Rattle.ctrl_model.specs.declared.refusals.Refusal.TheVariants.{Full, NotBindable, Unknown}
 use Rattle.ctrl_model.specs.declared.replies.Reply.TheVariants.{Made}
-use Rattle.ctrl_model.specs.CommandForm.{is_cost}
+use Rattle.ctrl_model.specs.ValueForms.{is_cost}
 use Rattle.ctrl_model.specs.Grants.{count}
 use Rattle.ctrl_model.specs.Numbered.{with_new}
 use Rattle.ctrl_model.specs.Rules.{or_then, refuse_if, carried_out, at_number}

@@ -1,7 +1,7 @@
 -- What a command on terminators changes, in the terminators themselves and in a state (docs/PROMISES.md, "Commands on
 -- terminators").
 use Rattle.std.specs.Prelude.{◌≡◌, true, []}
-use Rattle.ctrl_model.specs.CommandForm.{is_cost}
+use Rattle.ctrl_model.specs.ValueForms.{is_cost}
 use Rattle.ctrl_model.specs.Numbered.{is_present}
 use Rattle.ctrl_model.specs.State.{State}
 use Rattle.entity_store.specs.EntityTables.{Tables}

@@ -1,6 +1,7 @@
 ghost use Rattle.std.specs.Prelude.{◌≡◌, true, false, IfOk, OnErr, Ok, Some, MatchOption, MatchResult};
 ghost use Rattle.ctrl_model.specs.declared.kinds.Relation.TheVariants.{Bind};
-ghost use Rattle.ctrl_model.specs.CommandForm.{is_cost, is_spelled};
+ghost use Rattle.ctrl_model.specs.ValueForms.{is_cost};
+ghost use Rattle.ctrl_model.specs.SpelledCommands.{is_spelled};
 ghost use Rattle.ctrl_model.specs.Controller.{carry};
 ghost use Rattle.ctrl_model.specs.Grants.{count};
 ghost use Rattle.ctrl_model.specs.Numbered.{is_present};

@@ -6,7 +6,7 @@ use Rattle.std.specs.List.{filter}
 use Rattle.std.specs.Option.{option_map, option_map_or}
 use Rattle.ctrl_model.specs.declared.kinds.Precedence.{Precedence}
 use Rattle.ctrl_model.specs.declared.kinds.Kind.TheVariants as kind
-use Rattle.ctrl_model.specs.CommandForm.{is_cost}
+use Rattle.ctrl_model.specs.ValueForms.{is_cost}
 use Rattle.ctrl_model.specs.Limits.{limit, most_cost}
 use Rattle.ctrl_model.specs.Numbered.{Table, at, is_present, numbers, with_last, edit_at, with_new, with_edit, with_removed, Between}
 use Rattle.ctrl_model.specs.State.{Terminator}

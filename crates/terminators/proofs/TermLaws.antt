@@ -5,7 +5,7 @@ use Rattle.std.proofs.lemmas.List.{length-map}
 use Rattle.std.specs.List.{filter}
 use Rattle.ctrl_model.specs.declared.kinds.Precedence.{Precedence}
 use Rattle.ctrl_model.specs.declared.kinds.Kind.TheVariants as kind
-use Rattle.ctrl_model.specs.CommandForm.{is_cost}
+use Rattle.ctrl_model.specs.ValueForms.{is_cost}
 use Rattle.ctrl_model.specs.Limits.{limit}
 use Rattle.ctrl_model.specs.Numbered.{Table, with_new, with_edit, with_removed, with_kept}
 use Rattle.ctrl_model.specs.State.{Terminator}

@@ -4,7 +4,7 @@ use Rattle.std.specs.Prelude.{◌≡◌, ℕ, ◌+◌, ◌≤◌, nat_le, true, 
 use Rattle.std.specs.Option.{option_map_or}
 use Rattle.ctrl_model.specs.declared.kinds.Kind.TheVariants as kind
 use Rattle.ctrl_model.specs.declared.kinds.Precedence.{Precedence}
-use Rattle.ctrl_model.specs.CommandForm.{is_cost}
+use Rattle.ctrl_model.specs.ValueForms.{is_cost}
 use Rattle.ctrl_model.specs.Limits.{limit, last_next}
 use Rattle.ctrl_model.specs.Numbered.{Table, at, is_present, no_rows, with_last, edit_at, without, with_new, with_edit, with_removed, Between}
 use Rattle.ctrl_model.specs.State.{Terminator}

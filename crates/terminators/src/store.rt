@@ -2,7 +2,7 @@ ghost use Rattle.std.specs.Prelude.{◌≡◌, ◌≤◌, true, length, IfOk, On
 ghost use Rattle.std.specs.Option.{ok_or};
 ghost use Rattle.std.specs.Result.{result_map_both};
 ghost use Rattle.ctrl_model.specs.declared.kinds.Kind.TheVariants as kind;
-ghost use Rattle.ctrl_model.specs.CommandForm.{is_cost};
+ghost use Rattle.ctrl_model.specs.ValueForms.{is_cost};
 ghost use Rattle.ctrl_model.specs.Limits as limits;
 ghost use Rattle.ctrl_model.specs.Networks.{admissible};
 ghost use Rattle.ctrl_model.specs.Numbered.{at, is_present, numbers};

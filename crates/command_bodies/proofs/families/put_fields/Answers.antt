@@ -1,8 +1,8 @@
 use Rattle.std.proofs.Common.{◌≡◌, refl, ap, ◌∙◌}
 use Rattle.std.proofs.lemmas.Result.{on_ok_weaker}
 use Rattle.serde_json.specs.View.{members_view}
-use Rattle.command_bodies.specs.CommandFields.{form_of}
-use Rattle.command_codec.specs.BodyForms.{fields_in}
+use Rattle.ctrl_model.specs.CommandValues.{form_of}
+use Rattle.ctrl_model.specs.BodyForms.{fields_in}
 use Rattle.command_bodies.proofs.PutLaws.{all_put, put_between, then_put}
 use Rattle.command_bodies.proofs.families.put_fields.Goals as goal
 

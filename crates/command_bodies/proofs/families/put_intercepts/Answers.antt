@@ -1,11 +1,25 @@
-use Rattle.std.proofs.Common.{◌≡◌, Bool, true, ◌&&◌, ap, sym, ◌∙◌, subst, ℕ, List, [], ◌∷◌, Some}
+use Rattle.std.proofs.Common.{◌≡◌, Bool, true, ◌&&◌, ◌||◌, ap, sym, ◌∙◌, subst, ℕ, List, [], ◌∷◌, Some}
 use Rattle.std.proofs.lemmas.Bool.{and_parts}
-use Rattle.ctrl_model.specs.AddressForm.{is_address, address_text}
-use Rattle.ctrl_model.specs.CommandForm.{is_spelled, is_destination, is_one_place, is_port}
+use Rattle.ctrl_model.specs.AddressForm.{is_address, same_address, address_text}
+use Rattle.ctrl_model.specs.InterceptForm.{is_claim, is_port_range, same_ports}
+use Rattle.ctrl_model.specs.SpelledCommands.{is_spelled}
+use Rattle.ctrl_model.specs.ValueForms.{is_destination, is_one_place, is_port}
 use Rattle.ctrl_model.specs.NameForm.{is_name}
 use Rattle.command_bodies.specs.WrittenFields.{a_text, a_number}
+use Rattle.command_bodies.proofs.WrittenIntercepts.{claimed_forms}
 use Rattle.command_bodies.proofs.PutLaws.{PutBetween, PutValues, of_one}
 use Rattle.command_bodies.proofs.families.put_intercepts.Goals as goal
+
+pub put-requires : goal.put-requires
+put-requires c =
+    let i = c.in-SetIntercept.intercept in
+    let addresses = is_claim is_address same_address i.addresses in
+    let ports = is_claim is_port_range same_ports i.ports in
+    let spelled : (is_name c.in-SetIntercept.service && ((i.tcp || i.udp) && (addresses && ports))) ≡ true = ap is_spelled (sym c.in-SetIntercept.is) ∙ c.requires in
+    let behind = and_parts (is_name c.in-SetIntercept.service) ((i.tcp || i.udp) && (addresses && ports)) spelled in
+    let claims = and_parts (i.tcp || i.udp) (addresses && ports) behind.1 in
+    let claim = and_parts addresses ports claims.1 in
+    ap (λ (b : Bool). b && true) (claimed_forms is_address same_address i.addresses claim.0)
 
 pub put-requires-in-Pick : goal.put-requires-in-Pick
 put-requires-in-Pick c =

@@ -1,7 +1,7 @@
 use Rattle.std.proofs.Common.{◌≡◌, ◌==◌, false, cond, [], sym, ap, ◌∙◌}
 use Rattle.std.proofs.lemmas.Result.{IfOk-weaker}
 use Rattle.serde_json.specs.Written.{compact_text}
-use Rattle.command_codec.specs.ContentTypes.{content_of}
+use Rattle.ctrl_model.specs.ContentTypes.{content_of}
 use Rattle.command_bodies.specs.BodyTexts.{body_object}
 use Rattle.command_bodies.proofs.ReadBack.{other_than_hello, means_back}
 use Rattle.command_bodies.proofs.writing.write.Goals as goal

@@ -4,8 +4,7 @@ use Rattle.json_body.specs.declared.fields.FieldFault.TheVariants.{NoMemory}
 use Rattle.json_body.specs.FieldKinds.{object_of}
 use Rattle.body_fields.specs.FieldRules.{rules_of}
 use Rattle.body_fields.specs.ReadResults.{Gives}
-use Rattle.command_codec.specs.BodyKinds.{is_of_kind}
-use Rattle.command_codec.specs.FormRules.{form_asks}
+use Rattle.command_codec.specs.FormRules.{form_asks, is_of_body_kind}
 use Rattle.command_codec.proofs.FormLaws.{form_fault, form_kept, not_memory}
 use Rattle.command_codec.proofs.reading.judged_command.Goals as goal
 
@@ -19,7 +18,7 @@ returns-in_err-keep_rules-clause-memory c =
     let p = err_from_is_err_and c.from_residual.result c.from_residual.ensures.1 in
     rw (p.1, p.2) (λ wanting.
     let same : c.in_err-keep_rules.field-0.0 ≡ NoMemory = cc in
-    absurd (not_memory (rules_of is_of_kind (form_asks c.args.form).0) (form_asks c.args.form).1 (object_of c.args.fields.now) c.in_err-keep_rules.field-0.0 c.in_err-keep_rules.ensures.fault same))
+    absurd (not_memory (rules_of is_of_body_kind (form_asks c.args.form).0) (form_asks c.args.form).1 (object_of c.args.fields.now) c.in_err-keep_rules.field-0.0 c.in_err-keep_rules.ensures.fault same))
 
 pub returns-clause-given : goal.returns-clause-given
 returns-clause-given c =

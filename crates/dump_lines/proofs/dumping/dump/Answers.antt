@@ -1,5 +1,5 @@
 use Rattle.std.proofs.Common.{◌≡◌, true, subst, sym, ◌∙◌}
-use Rattle.ctrl_model.specs.CommandForm.{is_link_cost}
+use Rattle.ctrl_model.specs.ValueForms.{is_link_cost}
 use Rattle.dump_lines.proofs.DumpedRows.{cost_of_rows, dump_of_rows}
 use Rattle.dump_lines.proofs.FitRows.{all_fit}
 use Rattle.dump_lines.proofs.dumping.dump.Goals as goal

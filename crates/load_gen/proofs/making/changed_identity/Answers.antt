@@ -1,5 +1,5 @@
 use Rattle.std.proofs.Common.{refl, ap, ◌∙◌, arith}
-use Rattle.ctrl_model.specs.CommandForm.{are_attributes}
+use Rattle.ctrl_model.specs.ValueForms.{are_attributes}
 use Rattle.load_gen.proofs.SpelledLoads.{two_form, both_hold}
 use Rattle.load_gen.proofs.making.changed_identity.Goals as goal
 

@@ -1,6 +1,6 @@
 use Rattle.std.proofs.Common.{◌&&◌, codes, refl, ap₂, ◌∙◌, arith}
 use Rattle.ctrl_model.specs.NameForm.{is_name}
-use Rattle.ctrl_model.specs.CommandForm.{are_attributes}
+use Rattle.ctrl_model.specs.ValueForms.{are_attributes}
 use Rattle.load_gen.proofs.SpelledLoads.{name_form, two_form, both_hold}
 use Rattle.load_gen.proofs.making.identity.Goals as goal
 

@@ -1,7 +1,7 @@
 use Rattle.std.proofs.Common.{◌&&◌, codes, refl, sym, ap₂, ◌∙◌, arith}
 use Rattle.std.proofs.lemmas.Result.{on_ok_weaker}
 use Rattle.ctrl_model.specs.NameForm.{is_name}
-use Rattle.ctrl_model.specs.CommandForm.{are_attributes, is_cost}
+use Rattle.ctrl_model.specs.ValueForms.{are_attributes, is_cost}
 use Rattle.load_gen.specs.LoadCommands.{numbered}
 use Rattle.load_gen.proofs.SpelledLoads.{name_form, cost_form, one_form, both_hold}
 use Rattle.load_gen.proofs.making.push_made_router.Goals as goal

@@ -1,5 +1,5 @@
 use Rattle.std.proofs.Common.{sym, ◌∙◌, ap}
-use Rattle.ctrl_model.specs.CommandForm.{is_spelled}
+use Rattle.ctrl_model.specs.SpelledCommands.{is_spelled}
 use Rattle.policy_commands.proofs.SpelledPolicies.{short_service_sides}
 use Rattle.policy_commands.proofs.planning.plan_service_policy.Goals as goal
 

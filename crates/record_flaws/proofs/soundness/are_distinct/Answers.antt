@@ -1,5 +1,5 @@
 use Rattle.std.proofs.Common.{◌&&◌, not, sym, ◌∙◌, ap}
-use Rattle.ctrl_model.specs.CommandForm.{is_distinct}
+use Rattle.ctrl_model.specs.ValueForms.{is_distinct}
 use Rattle.record_flaws.proofs.soundness.are_distinct.Goals as goal
 
 pub returns-then-has_name : goal.returns-then-has_name

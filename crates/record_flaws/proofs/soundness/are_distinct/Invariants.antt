@@ -1,5 +1,5 @@
 use Rattle.std.proofs.Common.{◌≡◌, length}
-use Rattle.ctrl_model.specs.CommandForm.{is_distinct}
+use Rattle.ctrl_model.specs.ValueForms.{is_distinct}
 use Rattle.record_flaws.proofs.soundness.are_distinct.Given as goal
 
 -- the names that are left have no repeats exactly where all have none

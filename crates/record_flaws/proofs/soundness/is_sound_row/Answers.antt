@@ -1,6 +1,6 @@
 use Rattle.std.proofs.Common.{◌&&◌}
 use Rattle.ctrl_model.specs.NameForm.{is_name}
-use Rattle.ctrl_model.specs.CommandForm.{is_stored_side, is_service_relation}
+use Rattle.ctrl_model.specs.ValueForms.{is_stored_side, is_service_relation}
 use Rattle.row_codec.specs.RowForm.{is_listed_side}
 use Rattle.row_codec.specs.RowKeys.{is_long}
 use Rattle.record_flaws.proofs.SoundPolicies.{said_relation, one_relation}

@@ -1,6 +1,6 @@
 use Rattle.std.proofs.Common.{refl}
 use Rattle.reply_codec.specs.ReplyBody.{cost_or_null}
-use Rattle.ctrl_model.specs.CommandForm.{is_value}
+use Rattle.ctrl_model.specs.ValueForms.{is_value}
 use Rattle.serde_json.specs.View.{view}
 use Rattle.reply_codec.proofs.TextLengths.{items_before}
 use Rattle.reply_codec.proofs.BuiltLists.{pushed, each_passes}

@@ -7,42 +7,16 @@ use Rattle.ctrl_model.specs.declared.kinds.Kind.TheVariants as kind
 use Rattle.ctrl_model.specs.declared.kinds.Precedence.TheVariants.{Normal}
 use Rattle.ctrl_model.specs.declared.refusals.Field.{Field}
 use Rattle.ctrl_model.specs.declared.refusals.Field.TheVariants as field
-use Rattle.ctrl_model.specs.Limits.{limit, longest_path, most_cost, most_latency, most_number, most_port}
-use Rattle.command_codec.specs.declared.body_kinds.BodyKind.{BodyKind}
-use Rattle.command_codec.specs.declared.body_kinds.BodyKind.TheVariants as body
-use Rattle.command_codec.specs.BodyForms.{Form, Makes, needs, may_have}
-
--- ---- numbers in their ranges
-
--- The number of a record.
-abbrev pub number_of_record : BodyKind
-number_of_record = body.Number 1 most_number
-
--- A cost of a router or of a terminator.
-abbrev pub cost : BodyKind
-cost = body.Number 0 most_cost
-
--- The static cost of a link, and the least router cost.
-abbrev pub link_cost : BodyKind
-link_cost = body.Number 1 most_cost
-
--- The latency that one end of a link reports.
-abbrev pub latency : BodyKind
-latency = body.Number 0 most_latency
-
--- The cost of a route.
-abbrev pub total : BodyKind
-total = body.Number 0 most_number
-
--- A port.
-abbrev pub port : BodyKind
-port = body.Number 1 most_port
+use Rattle.ctrl_model.specs.Limits.{limit, longest_path}
+use Rattle.ctrl_model.specs.declared.value_kinds.ValueKind.TheVariants as value
+use Rattle.ctrl_model.specs.BodyForms.{Form, Makes, needs, may_have}
+use Rattle.ctrl_model.specs.ValueKinds.{cost, latency, link_cost, number_of_record, port, total}
 
 -- ---- forms
 
 -- One name, in this field.
 abbrev pub name_in : Field → Form
-name_in of_field = needs body.Name of_field ∷ []
+name_in of_field = needs value.Name of_field ∷ []
 
 -- The number of a record.
 abbrev pub record_number : Form
@@ -50,64 +24,64 @@ record_number = needs number_of_record field.No ∷ []
 
 -- An identity or a service that is made: attributes may be left out.
 abbrev pub made : Form
-made = needs body.Name field.Name ∷ may_have body.Attributes [] field.Attributes ∷ []
+made = needs value.Name field.Name ∷ may_have value.Attributes [] field.Attributes ∷ []
 
 -- One that is updated.
 abbrev pub updated : Form
-updated = needs body.Name field.Name ∷ needs body.Attributes field.Attributes ∷ []
+updated = needs value.Name field.Name ∷ needs value.Attributes field.Attributes ∷ []
 
 -- A router that is made: all but the name may be left out.
 abbrev pub made_router : Form
 made_router =
-    needs body.Name field.Name ∷ may_have body.Attributes [] field.Attributes ∷ may_have cost 0 field.Cost ∷ may_have body.Flag false field.NoTraversal ∷ []
+    needs value.Name field.Name ∷ may_have value.Attributes [] field.Attributes ∷ may_have cost 0 field.Cost ∷ may_have value.Flag false field.NoTraversal ∷ []
 
 -- A router that is updated.
 abbrev pub updated_router : Form
-updated_router = needs body.Name field.Name ∷ needs body.Attributes field.Attributes ∷ needs cost field.Cost ∷ needs body.Flag field.NoTraversal ∷ []
+updated_router = needs value.Name field.Name ∷ needs value.Attributes field.Attributes ∷ needs cost field.Cost ∷ needs value.Flag field.NoTraversal ∷ []
 
 -- A service policy.
 abbrev pub service_policy : Form
 service_policy =
-    needs body.Name field.Name ∷ needs body.Relation field.PolicyType ∷ needs body.Semantic field.Semantic ∷ needs body.Side field.IdentityRoles
-    ∷ needs body.Side field.ServiceRoles ∷ []
+    needs value.Name field.Name ∷ needs value.Relation field.PolicyType ∷ needs value.Semantic field.Semantic ∷ needs value.Side field.IdentityRoles
+    ∷ needs value.Side field.ServiceRoles ∷ []
 
 -- A policy that gives routers to what the side in this field matches.
 abbrev pub router_policy : Field → Form
-router_policy of_left = needs body.Name field.Name ∷ needs body.Semantic field.Semantic ∷ needs body.Side of_left ∷ needs body.Side field.RouterRoles ∷ []
+router_policy of_left = needs value.Name field.Name ∷ needs value.Semantic field.Semantic ∷ needs value.Side of_left ∷ needs value.Side field.RouterRoles ∷ []
 
 -- A link that is made: the cost and the latencies may be left out.
 abbrev pub made_link : Form
 made_link =
-    needs body.Name field.Name ∷ needs body.Name field.A ∷ needs body.Name field.B ∷ may_have link_cost 1 field.Cost ∷ may_have latency 0 field.LatencyA
+    needs value.Name field.Name ∷ needs value.Name field.A ∷ needs value.Name field.B ∷ may_have link_cost 1 field.Cost ∷ may_have latency 0 field.LatencyA
     ∷ may_have latency 0 field.LatencyB ∷ []
 
 -- A terminator that is made: all but the service and the router may be left out.
 abbrev pub made_terminator : Form
 made_terminator =
-    needs body.Name field.Service ∷ needs body.Name field.Router ∷ may_have body.Instance [] field.Instance ∷ may_have body.NameOrNone None field.Host
-    ∷ may_have cost 0 field.Cost ∷ may_have body.Precedence Normal field.Precedence ∷ []
+    needs value.Name field.Service ∷ needs value.Name field.Router ∷ may_have value.Instance [] field.Instance ∷ may_have value.NameOrNone None field.Host
+    ∷ may_have cost 0 field.Cost ∷ may_have value.Precedence Normal field.Precedence ∷ []
 
 -- A request of a circuit: the ingress and the instance may be left out.
 abbrev pub request : Form
 request =
-    needs body.Name field.Identity ∷ needs body.Name field.Service ∷ may_have body.NameOrNone None field.Ingress ∷ may_have body.Instance [] field.Instance ∷ []
+    needs value.Name field.Identity ∷ needs value.Name field.Service ∷ may_have value.NameOrNone None field.Ingress ∷ may_have value.Instance [] field.Instance ∷ []
 
 -- A route that is claimed for such a request.
 abbrev pub claim : Form
 claim =
-    needs body.Name field.Identity ∷ needs body.Name field.Service ∷ may_have body.NameOrNone None field.Ingress ∷ may_have body.Instance [] field.Instance
-    ∷ needs body.Name field.Chosen ∷ needs (body.Numbers longest_path) field.Links ∷ needs body.Potentials field.Potentials
-    ∷ needs (body.Numbers (limit kind.Router)) field.Routers ∷ needs number_of_record field.Terminator ∷ needs total field.Total ∷ []
+    needs value.Name field.Identity ∷ needs value.Name field.Service ∷ may_have value.NameOrNone None field.Ingress ∷ may_have value.Instance [] field.Instance
+    ∷ needs value.Name field.Chosen ∷ needs (value.Numbers longest_path) field.Links ∷ needs value.Potentials field.Potentials
+    ∷ needs (value.Numbers (limit kind.Router)) field.Routers ∷ needs number_of_record field.Terminator ∷ needs total field.Total ∷ []
 
 -- An intercept that is set.
 abbrev pub intercept : Form
 intercept =
-    needs body.Name field.Service ∷ needs body.Protocols field.Protocols ∷ needs body.Addresses field.Addresses ∷ needs body.Ranges field.Ports ∷ []
+    needs value.Name field.Service ∷ needs value.Protocols field.Protocols ∷ needs value.Addresses field.Addresses ∷ needs value.Ranges field.Ports ∷ []
 
 -- A destination whose service is picked.
 abbrev pub destination : Form
 destination =
-    needs body.Name field.Identity ∷ needs body.Protocol field.Protocol ∷ needs body.Destination field.Address ∷ needs port field.Port ∷ []
+    needs value.Name field.Identity ∷ needs value.Protocol field.Protocol ∷ needs value.Destination field.Address ∷ needs port field.Port ∷ []
 
 -- ---- the commands
 
@@ -155,9 +129,9 @@ policy_rows =
 abbrev pub link_rows : List Row
 link_rows =
     row 1200 made_link command.CreateLink
-    ∷ row 1201 (needs body.Name field.Link ∷ needs link_cost field.Cost ∷ []) command.SetLinkCost
-    ∷ row 1202 (needs body.Name field.Link ∷ needs body.Name field.Router ∷ needs latency field.Latency ∷ []) command.ReportLatency
-    ∷ row 1203 (needs body.Name field.Link ∷ needs body.Name field.Router ∷ needs body.Flag field.Up ∷ []) command.ReportState
+    ∷ row 1201 (needs value.Name field.Link ∷ needs link_cost field.Cost ∷ []) command.SetLinkCost
+    ∷ row 1202 (needs value.Name field.Link ∷ needs value.Name field.Router ∷ needs latency field.Latency ∷ []) command.ReportLatency
+    ∷ row 1203 (needs value.Name field.Link ∷ needs value.Name field.Router ∷ needs value.Flag field.Up ∷ []) command.ReportState
     ∷ row 1204 (name_in field.Link) command.DeleteLink
     ∷ row 1210 (needs link_cost field.Cost ∷ []) command.SetLeastRouterCost
     ∷ []
@@ -166,7 +140,7 @@ link_rows =
 abbrev pub terminator_rows : List Row
 terminator_rows =
     row 1300 made_terminator command.CreateTerminator
-    ∷ row 1301 (needs number_of_record field.No ∷ needs cost field.Cost ∷ needs body.Precedence field.Precedence ∷ []) command.UpdateTerminator
+    ∷ row 1301 (needs number_of_record field.No ∷ needs cost field.Cost ∷ needs value.Precedence field.Precedence ∷ []) command.UpdateTerminator
     ∷ row 1302 record_number command.DeleteTerminator
     ∷ []
 
@@ -196,7 +170,7 @@ intercept_rows =
     command.SetIntercept service (record { tcp = protocols.tcp; udp = protocols.udp; addresses = addresses; ports = ports }))
     ∷ row 1601 (name_in field.Service) command.ClearIntercept
     ∷ row 1610 destination command.Pick
-    ∷ row 1611 (needs body.Name field.Identity ∷ needs body.Name field.Service ∷ []) command.ListClashes
+    ∷ row 1611 (needs value.Name field.Identity ∷ needs value.Name field.Service ∷ []) command.ListClashes
     ∷ []
 
 -- All of them.
