@@ -94,6 +94,27 @@ fn make<R: Files>(rt: &R, folder: &str, path: &str) -> Result<Opened<R::File>, F
     Ok(Opened { file, writes: true })
 }
 
+// How many bytes a file has. A folder in its place is a fault.
+fn file_len<F: OpenFile>(file: &F) -> Result<u64, Failed> {
+    let found = given(file.metadata())?;
+    if found.is_dir() {
+        return Err(Failed);
+    }
+    Ok(found.len())
+}
+
+// Reads the bytes of a file from a place on.
+fn read_file<F: Read + Seek>(file: &mut F, at: u64, buf: &mut [u8]) -> Result<(), Failed> {
+    given(file.seek(SeekFrom::Start(at)))?;
+    given(file.read_exact(buf))
+}
+
+// Writes bytes to a file from a place on.
+fn write_file<F: Write + Seek>(file: &mut F, at: u64, bytes: &[u8]) -> Result<(), Failed> {
+    given(file.seek(SeekFrom::Start(at)))?;
+    given(file.write_all(bytes))
+}
+
 impl<'r, R: Files> Handles<'r, R> {
     fn path(&self, part: Part) -> &'r str {
         match part {
@@ -111,19 +132,19 @@ impl<'r, R: Files> Handles<'r, R> {
         }
     }
 
-    // The file of a part for reading, or none where it is absent.
-    fn readable(&mut self, part: Part) -> Result<Option<&mut R::File>, Failed> {
+    // Opens the file of a part for reading, unless it is opened or absent.
+    fn look(&mut self, part: Part) -> Result<(), Failed> {
         let rt = self.rt;
         let path = self.path(part);
         let slot = self.slot(part);
         if slot.is_none() {
             *slot = look(rt, path)?;
         }
-        Ok(slot.as_mut().map(|opened| &mut opened.file))
+        Ok(())
     }
 
-    // The file of a part for writing, or none where it is absent.
-    fn writable(&mut self, part: Part) -> Result<Option<&mut R::File>, Failed> {
+    // Opens the file of a part for writing, unless it is so opened or absent.
+    fn open(&mut self, part: Part) -> Result<(), Failed> {
         let rt = self.rt;
         let folder = self.paths.folder;
         let path = self.path(part);
@@ -131,64 +152,60 @@ impl<'r, R: Files> Handles<'r, R> {
         if !slot.as_ref().is_some_and(|opened| opened.writes) {
             *slot = open(rt, folder, path)?;
         }
-        Ok(slot.as_mut().map(|opened| &mut opened.file))
+        Ok(())
     }
 
-    // The file of a part for writing, made where it is absent.
-    fn made(&mut self, part: Part) -> Result<&mut R::File, Failed> {
+    // Makes the file of a part where it is absent, else opens it for writing.
+    fn make(&mut self, part: Part) -> Result<(), Failed> {
+        self.open(part)?;
         let rt = self.rt;
         let folder = self.paths.folder;
         let path = self.path(part);
-        if self.writable(part)?.is_none() {
-            *self.slot(part) = Some(make(rt, folder, path)?);
+        let slot = self.slot(part);
+        if slot.is_none() {
+            *slot = Some(make(rt, folder, path)?);
         }
-        match self.slot(part) {
-            Some(opened) => Ok(&mut opened.file),
-            None => Err(Failed),
-        }
+        Ok(())
     }
 
     fn len(&mut self, part: Part) -> Result<u64, Failed> {
-        match self.readable(part)? {
-            Some(file) => {
-                let found = given(file.metadata())?;
-                if found.is_dir() {
-                    return Err(Failed);
-                }
-                Ok(found.len())
-            }
+        self.look(part)?;
+        match self.slot(part) {
+            Some(opened) => file_len(&opened.file),
             None => Ok(0),
         }
     }
 
     fn read_at(&mut self, part: Part, at: u64, buf: &mut [u8]) -> Result<(), Failed> {
-        match self.readable(part)? {
-            Some(file) => {
-                given(file.seek(SeekFrom::Start(at)))?;
-                given(file.read_exact(buf))
-            }
+        self.look(part)?;
+        match self.slot(part) {
+            Some(opened) => read_file(&mut opened.file, at, buf),
             None if buf.is_empty() => Ok(()),
             None => Err(Failed),
         }
     }
 
     fn write_at(&mut self, part: Part, at: u64, bytes: &[u8]) -> Result<(), Failed> {
-        let file = self.made(part)?;
-        given(file.seek(SeekFrom::Start(at)))?;
-        given(file.write_all(bytes))
+        self.make(part)?;
+        match self.slot(part) {
+            Some(opened) => write_file(&mut opened.file, at, bytes),
+            None => Err(Failed),
+        }
     }
 
     fn cut(&mut self, part: Part, len: u64) -> Result<(), Failed> {
-        match self.writable(part)? {
-            Some(file) => given(file.set_len(len)),
+        self.open(part)?;
+        match self.slot(part) {
+            Some(opened) => given(opened.file.set_len(len)),
             None if len == 0 => Ok(()),
             None => Err(Failed),
         }
     }
 
     fn sync(&mut self, part: Part) -> Result<(), Failed> {
-        match self.writable(part)? {
-            Some(file) => given(file.sync_all()),
+        self.open(part)?;
+        match self.slot(part) {
+            Some(opened) => given(opened.file.sync_all()),
             None => Ok(()),
         }
     }

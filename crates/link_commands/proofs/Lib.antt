@@ -1,2 +1,3 @@
 pub mod PlanLaws
 pub mod JoinLaws
+pub mod SpelledLinks

@@ -1,1 +1,2 @@
 pub mod TermPlanLaws
+pub mod SpelledTerms
