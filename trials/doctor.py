@@ -5,7 +5,8 @@ usage: doctor.py ZITILOOK [FOLDERS [SEED]]
 
 The folders are of both formats, in either slot, stopped, damaged in bytes, records, operations and rows, with gates of one flipped bit, cut and without
 a mark. The reading is written from docs/FORMATS.md, 'Findings of a folder'. Where a line tells a byte to be written, the byte is written, and the slot
-must be found to have so many records and a closed gate behind them. No file may change.
+must be found to have so many records and a closed gate behind them; where a compaction is told behind it, nothing may be wrong behind that. No file may
+change.
 """
 
 import collections
@@ -87,6 +88,8 @@ def state_line(files):
         slot, place = found.args
         cause = CAUSES[found.what]
         back = COPY_BACK if cause in ("no-header", "no-state") else f"copy the files, and write a byte 0 at {place}"
+        if cause in ("no-batch", "no-next"):
+            back = f"copy the files, write a byte 0 at {place}, and run zitictl compact"
         return f"found state file={folders.SLOTS[slot]} at={place} cause={cause}: {back}"
 
 
@@ -159,6 +162,19 @@ def mended(files, line):
     return dict(files, **{name: data[:at] + bytes([byte]) + data[at + 1:]}), name, int(keys["records"]) + int(keys["hidden"])
 
 
+def given_up(files, line):
+    """The folder behind the byte and the compaction that a line of damage tells, as the model carries them out; none where that opens to no state."""
+    keys = dict(it.split("=") for it in line.split(": ")[0].split()[2:])
+    name, at = keys["file"], int(keys["at"])
+    files = dict(files, **{name: files[name][:at] + b"\0" + files[name][at + 1:]})
+    try:
+        kept = folders.Kept(files)
+    except folders.Damaged:
+        return None
+    kept.rewrite()
+    return kept.files
+
+
 def main():
     program, many, seed = os.path.abspath(sys.argv[1]), int((sys.argv + ["", "700"])[2] or 700), int((sys.argv + ["", "", "1"])[3] or 1)
     tally, rand = collections.Counter(), random.Random(seed)
@@ -178,6 +194,10 @@ def main():
                 again = look(program, files)[1][1 + folders.SLOTS.index(name)]
                 assert f"records={records} gate=closed" in again, (case, line, again)
                 tally["ways back"] += 1
+        behind = given_up(files, said[3]) if said[3].endswith("zitictl compact") else None
+        if behind:
+            assert look(program, behind)[0] == 0, (case, said[3])
+            tally["records given up"] += 1
     print(f"{many} folders of seed {seed}:", ", ".join(f"{count} {what}" for what, count in sorted(tally.items())))
 
 

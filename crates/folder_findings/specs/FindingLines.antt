@@ -108,6 +108,10 @@ copy_back = codes ": put a copy of the files in their place\n"
 abbrev pub byte_back : (byte : List ℕ) → (at : ℕ) → List ℕ
 byte_back byte at = (codes ": copy the files, and write a byte " ++ byte) ++ ((codes " at " ++ decimal at) ++ codes "\n")
 
+-- A record at a place is given up, and those behind it: a byte there ends the slot before it, and a compaction leaves them behind for good.
+abbrev pub record_back : (at : ℕ) → List ℕ
+record_back at = (codes ": copy the files, write a byte 0 at " ++ decimal at) ++ codes ", and run zitictl compact\n"
+
 -- The way back to the records behind a gate, or before it.
 abbrev pub gate_back : Gate → (at : ℕ) → List ℕ
 gate_back Closed at = byte_back (codes "1") at
@@ -118,8 +122,8 @@ gate_back Cut at = byte_back (codes "0") at
 abbrev pub cause_back : Cause → (at : ℕ) → List ℕ
 cause_back NoHeader at = copy_back
 cause_back NoGate at = byte_back (codes "0") at
-cause_back NoBatch at = byte_back (codes "0") at
-cause_back NoNext at = byte_back (codes "0") at
+cause_back NoBatch at = record_back at
+cause_back NoNext at = record_back at
 cause_back NoState at = copy_back
 
 -- The way back to a lost mark: a byte where the first slot alone has records, two where the second alone has, and else there are two.

@@ -1,5 +1,5 @@
 ghost use Rattle.std.specs.Prelude.{◌≡◌, ◌&&◌, ◌++◌, cond, codes, decimal, IfOk, OnOk};
-ghost use Rattle.folder_findings.specs.FindingLines.{byte_back, cause_back, cause_text, cause_word, copy_back, empty_line, file_name, format_word, gate_back, gate_word, head_text, is_wrong, lines_of, mark_back, mark_line, named_line, place_text, slot_back, slot_line, slot_text, span_text, stands_text, state_line, verdict_word};
+ghost use Rattle.folder_findings.specs.FindingLines.{byte_back, cause_back, cause_text, cause_word, copy_back, empty_line, file_name, format_word, gate_back, gate_word, head_text, is_wrong, lines_of, mark_back, mark_line, named_line, place_text, record_back, slot_back, slot_line, slot_text, span_text, stands_text, state_line, verdict_word};
 
 use crate::causes::{Cause, Verdict};
 use crate::finding::{FoundFiles, FoundSlot};
@@ -91,6 +91,14 @@ fn put_byte_back(out: &mut Vec<u8>, byte: &[u8], at: u64) -> Result<(), AllocErr
     out.extend_from_slice(b"\n")
 }
 
+// The way back where the record at a place is given up.
+fn put_record_back(out: &mut Vec<u8>, at: u64) -> Result<(), AllocError>
+    ensures { OnOk result (out.new.items ≡ out.old.items ++ record_back at) }
+{
+    put_number(out, b": copy the files, write a byte 0 at ", at)?;
+    out.extend_from_slice(b", and run zitictl compact\n")
+}
+
 fn put_gate_back(out: &mut Vec<u8>, gate: Gate, at: u64) -> Result<(), AllocError>
     ensures { OnOk result (out.new.items ≡ out.old.items ++ gate_back gate at) }
 {
@@ -105,7 +113,8 @@ fn put_cause_back(out: &mut Vec<u8>, cause: Cause, at: u64) -> Result<(), AllocE
 {
     match cause {
         Cause::NoHeader | Cause::NoState => put_copy_back(out),
-        Cause::NoGate | Cause::NoBatch | Cause::NoNext => put_byte_back(out, b"0", at),
+        Cause::NoGate => put_byte_back(out, b"0", at),
+        Cause::NoBatch | Cause::NoNext => put_record_back(out, at),
     }
 }
 

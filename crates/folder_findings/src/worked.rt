@@ -72,7 +72,7 @@ pub fn worked_lines()
     ensures cut_record { slot_line One true (found_slot (take 62 two_records))
         ≡ codes "found ziti.1 bytes=62 format=2 records=1 gate=cut at=56 hidden=0: copy the files, and write a byte 0 at 56\n" }
     ensures no_header { slot_line Zero true (found_slot (90 ∷ 67 ∷ [])) ≡ codes "found ziti.0 bytes=2 format=none: put a copy of the files in their place\n" }
-    ensures no_batch { state_line (Damaged Zero 56 NoBatch) ≡ codes "found state file=ziti.0 at=56 cause=no-batch: copy the files, and write a byte 0 at 56\n" }
-    ensures no_next { state_line (Damaged One 104 NoNext) ≡ codes "found state file=ziti.1 at=104 cause=no-next: copy the files, and write a byte 0 at 104\n" }
+    ensures no_batch { state_line (Damaged Zero 56 NoBatch) ≡ codes "found state file=ziti.0 at=56 cause=no-batch: copy the files, write a byte 0 at 56, and run zitictl compact\n" }
+    ensures no_next { state_line (Damaged One 104 NoNext) ≡ codes "found state file=ziti.1 at=104 cause=no-next: copy the files, write a byte 0 at 104, and run zitictl compact\n" }
     ensures no_state { state_line (Damaged One 174 NoState) ≡ codes "found state file=ziti.1 at=174 cause=no-state: put a copy of the files in their place\n" }
 {}
