@@ -1,2 +1,4 @@
 pub mod RowStates
 pub mod EqualStates
+pub mod KeptRowLaws
+pub mod PlanLaws

@@ -17,19 +17,18 @@ use Rattle.ctrl_model.specs.Tables.{Record, table}
 use Rattle.row_codec.specs.declared.rows.Row.{Row}
 use Rattle.row_codec.specs.declared.rows.Row.TheVariants as row
 use Rattle.row_codec.specs.Batches.{batch_between}
-use Rattle.row_codec.specs.RowForm.{is_row, key_of, value_of}
+use Rattle.row_codec.specs.RowForm.{is_row, key_of}
 use Rattle.row_codec.specs.RowKeys.{Key, RowTable, key_in, kind_number, kinds, tables_of}
 use Rattle.row_codec.specs.RowKeys.RowTable.{Next, Setting, Records, Counts, Intercepts, Serial}
 use Rattle.row_codec.specs.RowValues.{count_bytes, intercept_value, long, record_value, wide}
-use Rattle.row_codec.specs.StateRows.{HasRows, count_value, next_value, serial_value, setting_value}
-use Rattle.row_loading.specs.LoadedRows.{Loads}
+use Rattle.row_codec.specs.StateRows.{HasRows, count_value, next_value}
 use Rattle.row_loading.proofs.ListedStates.{count_row, hosts_back, listed, listed_in, lists_state, row_for, row_if}
 use Rattle.row_loading.proofs.LoadedStates.{are-listed, same-state}
 use Rattle.state_building.specs.BuiltStates.{state_in}
 use Rattle.record_lines.specs.RecordLines.{intercept_line, line_of, terminator_line}
 use Rattle.change_lines.specs.SideBySide.{side_by_side}
 use Rattle.change_lines.specs.ChangeLines.{Thing, Things, change_lines, grant_word, kind_word, number_line, pair_line, said, thing_if_some, things, things_in, worded}
-use Rattle.change_lines.specs.RowChanges.{AreRowsOf, between, numbered_word, row_text, row_thing, row_things}
+use Rattle.change_lines.specs.RowChanges.{AreRowsOf, between, numbered_word, row_thing, row_things}
 
 -- ---- lists of lists
 
@@ -171,7 +170,7 @@ listed_in_two s has =
     ∙ append-nil (listed One s)
 
 -- whatever format they were read of, they are those of the second one
-rows_are : (f : Format) (s : State) (rows : List Row) → AreRowsOf f s rows → listed Two s ≡ rows
+pub rows_are : (f : Format) (s : State) (rows : List Row) → AreRowsOf f s rows → listed Two s ≡ rows
 rows_are One s rows are = listed_in_two s are.has ∙ are-listed One (batch_between One start s) rows s are.valid refl are.loads
 rows_are Two s rows are = are-listed Two (batch_between Two start s) rows s are.valid refl are.loads
 

@@ -1,5 +1,5 @@
 -- The things that rows are, and the changes between rows. Only private contracts cite these, but for the first.
-use Rattle.std.specs.Prelude.{◌≡◌, ℕ, ◌==◌, List, [], ◌∷◌, ◌++◌, map, find, codes}
+use Rattle.std.specs.Prelude.{ℕ, ◌==◌, List, [], ◌++◌, map, find, codes}
 use Rattle.std.specs.Option.{option_map_or}
 use Rattle.ctrl_model.specs.declared.formats.Format.{Format}
 use Rattle.ctrl_model.specs.declared.formats.Format.TheVariants.{Two}
@@ -8,7 +8,7 @@ use Rattle.ctrl_model.specs.ValidState.{ValidState}
 use Rattle.row_codec.specs.declared.rows.Row.{Row}
 use Rattle.row_codec.specs.Batches.{batch_between}
 use Rattle.row_codec.specs.RowForm.{key_of, value_of}
-use Rattle.row_codec.specs.RowKeys.{Key, kind_number, kinds}
+use Rattle.row_codec.specs.RowKeys.{kind_number, kinds}
 use Rattle.row_codec.specs.StateRows.{HasRows}
 use Rattle.row_loading.specs.LoadedRows.{Loads}
 use Rattle.state_building.specs.RowForms.{by_row}

@@ -1,6 +1,6 @@
 -- What became of a small network, by hand.
-use Rattle.std.specs.Prelude.{ℕ, true, false, List, [], ◌∷◌, codes}
-use Rattle.ctrl_model.specs.State.{State, Link}
+use Rattle.std.specs.Prelude.{ℕ, false, List, [], ◌∷◌, codes}
+use Rattle.ctrl_model.specs.State.{State}
 use Rattle.record_lines.specs.WorkedRecords.{claimed_network, lone, small_network}
 
 -- Its link is down, so the circuit over it ended.
@@ -26,3 +26,9 @@ unclaimed_network = record claimed_network { intercepts = drop_first claimed_net
     drop_first : {A : Type 0} → List A → List A
     drop_first [] = []
     drop_first (x ∷ xs) = xs
+
+-- Lines of commands for the small network: a remark; ann loses her attribute; ann cannot come again; and her circuit
+-- went with the grant.
+abbrev pub unstaffing : List ℕ
+unstaffing =
+    codes "# staff\nUpdateIdentity {\"name\":\"ann\",\"attributes\":[]}\nCreateIdentity {\"name\":\"ann\"}\nDeleteCircuit {\"no\":1}\n"

@@ -3,7 +3,7 @@ use Rattle.std.proofs.Common.{◌≡◌, ◌⊎◌, inl, inr, ℕ, Bool, List, [
 use Rattle.std.specs.declared.option.Option.{Option}
 use Rattle.ziti_outside.specs.Causes.{HasCause, Rose}
 use Rattle.ziti_outside.specs.Told.{Took, TookFront}
-use Rattle.ziti_outside.specs.Untouched.{OnlyDisk, OnlyNotes, OnlyReads}
+use Rattle.ziti_outside.specs.Untouched.{OnlyNotes, OnlyReads}
 use Rattle.ziti_outside.specs.Views.{Seen, Stopped}
 use Rattle.ziti_outside.proofs.MomentLaws.{Elapses-none, OnlyDisk-none}
 use Rattle.ctrl_model.specs.State.{State}
@@ -14,8 +14,8 @@ use Rattle.run_notes.specs.NotedLines.{FindsNoMore, NotesLines}
 use Rattle.run_notes.proofs.NoteLaws.{notes_from}
 use Rattle.zitilook.specs.declared.status.Status.{Status}
 use Rattle.zitilook.specs.declared.status.Status.TheVariants.{Done, Differs, WriteFault, DiskFault, Damaged, NoMemory}
-use Rattle.zitilook.specs.Comparisons.{ComparesOpened, ComparesTo, EndsBeside, FindsNoOther, HasEitherCause, IsOtherClosed, SaysChanges, SaysLines}
-use Rattle.zitilook.specs.Looks.{HasCauses, IsLeftAlone}
+use Rattle.zitilook.specs.Comparisons.{ComparesTo, EndsBeside, FindsNoOther, HasEitherCause, IsOtherClosed, SaysChanges, SaysLines}
+use Rattle.zitilook.specs.Looks.{IsLeftAlone}
 use Rattle.zitilook.specs.Notes.{notes_of, other_damaged_note, other_fault_note}
 use Rattle.zitilook.specs.Steps.{EndsSo, TellsOther}
 use Rattle.zitilook.proofs.FolderLaws.{LeftAlone-then, noted_alone, read_alone}

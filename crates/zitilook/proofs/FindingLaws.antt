@@ -1,5 +1,5 @@
 -- A run that looks for what is wrong with a folder.
-use Rattle.std.proofs.Common.{◌≡◌, ◌⊎◌, inl, inr, Bool, true, false, ℕ, List, IsTrue, Result, Ok, Err, IfOk, refl, sym, ◌∙◌, subst}
+use Rattle.std.proofs.Common.{◌≡◌, ◌⊎◌, inl, inr, Bool, true, false, ℕ, List, IsTrue, Result, IfOk, sym, ◌∙◌, subst}
 use Rattle.std.specs.declared.option.Option.{Option}
 use Rattle.std.proofs.lemmas.Result.{IfOk-weaker}
 use Rattle.ziti_outside.specs.declared.desk.Part.{Part}
@@ -20,7 +20,7 @@ use Rattle.folder_findings.specs.FoundFiles.{found_files}
 use Rattle.run_notes.specs.NotedLines.{FindsNoMore, NotesLines}
 use Rattle.run_notes.proofs.NoteLaws.{notes_from}
 use Rattle.zitilook.specs.declared.status.Status.{Status}
-use Rattle.zitilook.specs.declared.status.Status.TheVariants.{Done, Found, WriteFault, DiskFault, NoMemory}
+use Rattle.zitilook.specs.declared.status.Status.TheVariants.{WriteFault, DiskFault, NoMemory}
 use Rattle.zitilook.specs.Findings.{Examines, IsVerdict, SaysFindings, SaysWhere, TellsNothing, found_status}
 use Rattle.zitilook.specs.Notes.{notes_of}
 use Rattle.zitilook.specs.OpenedRows.{MayClose}

@@ -5,3 +5,4 @@ pub mod WordLaws
 pub mod RunLaws
 pub mod FindingLaws
 pub mod ComparingLaws
+pub mod PlanningLaws

@@ -11,7 +11,7 @@ use Rattle.zitilook.specs.declared.words.Page.{Page}
 use Rattle.zitilook.specs.declared.status.Status.{Status}
 use Rattle.zitilook.specs.declared.status.Status.TheVariants.{Usage, Unknown, WriteFault, DiskFault, NoMemory}
 use Rattle.zitilook.specs.Headline.{Runs, refusal_of, told_of}
-use Rattle.zitilook.specs.Findings.{Examines, SaysWhere, TellsFindings, TellsNothing}
+use Rattle.zitilook.specs.Findings.{Examines, SaysWhere}
 use Rattle.zitilook.specs.Looks.{IsClosed, FindsNone, Looks, Refuses, Says, SaysText, Tells}
 use Rattle.zitilook.specs.Notes.{notes_of}
 use Rattle.zitilook.specs.Pages.{page_text}

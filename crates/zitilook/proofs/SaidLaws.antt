@@ -1,5 +1,6 @@
 -- What was said of a text.
-use Rattle.std.proofs.Common.{◌≡◌, ◌⊎◌, inl, inr, ℕ, List, [], ◌∷◌, Result, Ok, Err, refl, sym, ◌∙◌, subst}
+use Rattle.std.proofs.Common.{◌≡◌, ◌⊎◌, inl, inr, ℕ, ◌==◌, true, false, List, [], ◌∷◌, Result, Ok, Err, length, eqb-true, refl, sym, ◌∙◌, subst}
+use Rattle.std.proofs.lemmas.List.{nil_from_length}
 use Rattle.std.specs.declared.option.Option.{Option}
 use Rattle.ziti_outside.specs.Told.{Took, TookFront}
 use Rattle.ziti_outside.specs.Views.{Seen}
@@ -47,7 +48,7 @@ says_from text status a b c said q r says = record {
 }
 
 -- what was refused since a desk that had said and noted the same
-refused_from : (note : List ℕ) (status : Status) (a b c : Seen) → b.said ≡ a.said → b.noted ≡ a.noted → b.note_faults ≡ a.note_faults → Refuses note b c status
+pub refused_from : (note : List ℕ) (status : Status) (a b c : Seen) → b.said ≡ a.said → b.noted ≡ a.noted → b.note_faults ≡ a.note_faults → Refuses note b c status
     → Refuses note a c status
 refused_from note status a b c said q r refuses = record {
   says_nothing = refuses.says_nothing ∙ said;
@@ -79,3 +80,10 @@ found_none note (b ∷ bs) is = absurd cc
 pub found_some : (note text : List ℕ) → (text ≡ [] → ⊥) → found note text ≡ Ok text
 found_some note [] some = absurd (some refl)
 found_some note (b ∷ bs) some = refl
+
+pub no_text : (text : List ℕ) → (length text == 0) ≡ true → text ≡ []
+no_text text is = nil_from_length text (eqb-true (length text) 0 is)
+
+pub some_text : (text : List ℕ) → (length text == 0) ≡ false → text ≡ [] → ⊥
+some_text [] is none = absurd cc
+some_text (b ∷ bs) is none = absurd cc

@@ -2,7 +2,7 @@
 use Rattle.std.specs.Prelude.{◌≡◌, ◌⊎◌, ◌↔◌, ℕ, Bool, true, false, List, None, Some, Ok}
 use Rattle.std.specs.declared.option.Option.{Option}
 use Rattle.std.specs.declared.result.Result.{Result}
-use Rattle.ziti_outside.specs.Views.{Seen, Stopped}
+use Rattle.ziti_outside.specs.Views.{Outside, Seen, Stopped}
 use Rattle.ctrl_model.specs.State.{State}
 use Rattle.access_reasons.specs.ReasonLines.{lines_of as reason_lines}
 use Rattle.access_reasons.specs.Reasons.{who, why}
@@ -21,7 +21,8 @@ use Rattle.zitilook.specs.Looks.{SaysText, FindsNone, Looks, Refuses, found, Has
 use Rattle.zitilook.specs.Notes.{absent_note, misnamed_note, notes_of, unknown_note}
 use Rattle.zitilook.specs.Pages.{page_text}
 use Rattle.zitilook.specs.Comparisons.{Compares}
-use Rattle.zitilook.specs.Words.{asked_of, is_diff, word_at}
+use Rattle.zitilook.specs.Plans.{Plans}
+use Rattle.zitilook.specs.Words.{asked_of, is_diff, is_plan, word_at}
 
 -- A run that said nothing, and noted some lines.
 pub record OnlyNotesLines (lines : List ℕ) (before now : Seen) : Type 0 where
@@ -74,9 +75,17 @@ pub record Runs {D : Type 0} (tells : Bool) (seen : D → Seen) (stopped : D →
   pub causes : HasCauses (seen desk) (seen desk_now) status
   pub folder : IsLeftAlone seen stopped desk desk_now
 
--- A run of the program, which has a desk for another folder beside. Where the words are `diff OTHER`, the changes between the two folders
+-- A run that has a desk for another folder beside. Where the words are `diff OTHER`, the changes between the two folders
 -- are said. Any other run leaves the other desk as it was.
 pub record RunsBeside {D E : Type 0} (tells : Bool) (seen : D → Seen) (stopped : D → Stopped) (tells_other : Bool) (seen_other : E → Seen) (stopped_other : E → Stopped)
     (words : List (List ℕ)) (other other_now : E) (desk desk_now : D) (status : Status) : Type 0 where
   pub alone : is_diff words ≡ false → Runs tells seen stopped words (asked_of words) desk desk_now status × (other_now ≡ other)
   pub beside : is_diff words ≡ true → Compares tells seen stopped tells_other seen_other stopped_other other other_now desk desk_now status
+
+-- A run of the program, which has an input too. Where the word is `plan`, what the commands of the input would change is said. Any other run
+-- takes nothing of the input.
+pub record RunsOver {S D E : Type 0} (outside : Outside S D) (tells_other : Bool) (seen_other : E → Seen) (stopped_other : E → Stopped)
+    (words : List (List ℕ)) (source source_now : S) (other other_now : E) (desk desk_now : D) (status : Status) : Type 0 where
+  pub others : is_plan words ≡ false
+      → RunsBeside outside.tells outside.seen outside.stopped tells_other seen_other stopped_other words other other_now desk desk_now status × (source_now ≡ source)
+  pub plans : is_plan words ≡ true → Plans outside source source_now desk desk_now status × (other_now ≡ other)

@@ -6,6 +6,9 @@ pub mod OpenedRows
 pub mod Looks
 pub mod Findings
 pub mod Comparisons
+pub mod Plans
+pub mod PlanSteps
+pub mod Intake
 pub mod Headline
 pub mod LookedTexts
 pub mod Steps

@@ -15,7 +15,8 @@ page_text Help =
     ++ (codes "picture [CIRCUIT]     the network as Mermaid, and in it the way of the circuit of this number\n"
     ++ (codes "doctor                what is wrong with the files of the folder, and the way back\n"
     ++ (codes "diff OTHER            the changes that lead from its state to that of the folder OTHER, a line each\n"
+    ++ (codes "plan                  what the commands of the lines on standard input would change, and which are refused\n"
     ++ (codes "help                  these lines\n"
     ++ (codes "version               the version of the lines\n"
-    ++ codes "KIND is identities, services, routers, links, service-policies, edge-router-policies, service-edge-router-policies, terminators, circuits or intercepts\n"))))))))))
+    ++ codes "KIND is identities, services, routers, links, service-policies, edge-router-policies, service-edge-router-policies, terminators, circuits or intercepts\n")))))))))))
 page_text Version = codes "zitilook 1\n"

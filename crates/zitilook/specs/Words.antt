@@ -91,6 +91,11 @@ abbrev pub is_diff : List (List ℕ) → Bool
 is_diff (word ∷ other ∷ []) = bytes_eq word (codes "diff")
 is_diff words = false
 
+-- Whether the words ask what the commands of the input would change: `plan` alone.
+abbrev pub is_plan : List (List ℕ) → Bool
+is_plan (word ∷ []) = bytes_eq word (codes "plan")
+is_plan words = false
+
 -- The place of the other folder, among all words: the one behind `diff`, and else the working folder.
 abbrev pub other_place : List (List ℕ) → List ℕ
 other_place (program ∷ word ∷ place ∷ []) = if bytes_eq word (codes "diff") then place else codes "."

@@ -5,10 +5,12 @@
 
 mod comparing;
 mod examining;
+mod intake;
 mod notes;
 mod opening;
 mod pages;
 mod paths;
+mod planning;
 mod running;
 mod status;
 mod telling;
@@ -19,11 +21,11 @@ ghost use Rattle.std.specs.Prelude.{◌≡◌, ◌≢◌, [], IfOk, IfErr, map, 
 ghost use Rattle.std.specs.Process.{exit_status};
 ghost use Rattle.std.specs.IoError.{error_kind};
 ghost use Rattle.std.specs.String.{string_bytes};
-ghost use Rattle.zitilook.specs.Headline.{RunsBeside};
+ghost use Rattle.zitilook.specs.Headline.{RunsOver};
 ghost use Rattle.zitilook.specs.Statuses.{number_of};
 
-use crate::comparing::run_beside;
 use crate::paths::FolderPaths;
+use crate::planning::run_over;
 use crate::status::Status;
 use crate::words::other_place;
 use program_words::asked_words;
@@ -31,8 +33,8 @@ use std::alloc::{AllocError, Global};
 use std::io::ErrorKind;
 use std::process::ExitCode;
 use std::{env, io};
-use ziti_desk::{FileDesk, Folder, Paths, Writes};
-use ziti_outside::Desk;
+use ziti_desk::{FileDesk, FileSource, Folder, Paths, Writes};
+use ziti_outside::{Desk, Source};
 
 // The words that the system gives: the program's name, and those behind it.
 fn given_words(rt: &HostRuntime) -> io::Result<Vec<String>> {
@@ -42,21 +44,22 @@ fn given_words(rt: &HostRuntime) -> io::Result<Vec<String>> {
 
 // Runs on the words that the system gave. Words that are not text are words of no table. Where memory was wanting for the words,
 // nothing is done.
-fn run_given<D: Desk, E: Desk>(
+fn run_given<S: Source, D: Desk, E: Desk>(
     alloc: Global,
     given: io::Result<Vec<String>>,
+    source: &mut S,
     desk: &mut D,
     other: &mut E,
 ) -> Status
-    ensures words { IfOk given (λ words. RunsBeside D.tells D.seen D.stopped E.tells E.seen E.stopped
-        (map string_bytes (drop 1 words.items)) other.old other.new desk.old desk.new result) }
+    ensures words { IfOk given (λ words. RunsOver (record { left = S.left; faults = S.faults; tells = D.tells; seen = D.seen; stopped = D.stopped }) E.tells E.seen E.stopped
+        (map string_bytes (drop 1 words.items)) source.old source.new other.old other.new desk.old desk.new result) }
     ensures no_text { IfErr given (λ error. error_kind error ≢ ErrorKind.OutOfMemory
-        → RunsBeside D.tells D.seen D.stopped E.tells E.seen E.stopped [] other.old other.new desk.old desk.new result) }
+        → RunsOver (record { left = S.left; faults = S.faults; tells = D.tells; seen = D.seen; stopped = D.stopped }) E.tells E.seen E.stopped [] source.old source.new other.old other.new desk.old desk.new result) }
     ensures no_memory { IfErr given (λ error. error_kind error ≡ ErrorKind.OutOfMemory
-        → (result ≡ Status.NoMemory) × (desk.new ≡ desk.old) × (other.new ≡ other.old)) }
+        → (result ≡ Status.NoMemory) × (source.new ≡ source.old) × (desk.new ≡ desk.old) × (other.new ≡ other.old)) }
 {
     match asked_words(alloc, given) {
-        Ok(words) => run_beside(alloc, words.as_slice(), desk, other),
+        Ok(words) => run_over(alloc, words.as_slice(), source, desk, other),
         Err(AllocError) => Status::NoMemory,
     }
 }
@@ -69,20 +72,21 @@ fn exit_code(status: Status) -> ExitCode
 }
 
 // Runs on the words that the system gave, and ends the program as the status of the run says.
-fn ends<D: Desk, E: Desk>(
+fn ends<S: Source, D: Desk, E: Desk>(
     alloc: Global,
     given: io::Result<Vec<String>>,
+    source: &mut S,
     desk: &mut D,
     other: &mut E,
 ) -> ExitCode
-    ensures words { IfOk given (λ words. (status : Status) × RunsBeside D.tells D.seen D.stopped E.tells E.seen E.stopped
-        (map string_bytes (drop 1 words.items)) other.old other.new desk.old desk.new status × (exit_status result ≡ number_of status)) }
+    ensures words { IfOk given (λ words. (status : Status) × RunsOver (record { left = S.left; faults = S.faults; tells = D.tells; seen = D.seen; stopped = D.stopped }) E.tells E.seen E.stopped
+        (map string_bytes (drop 1 words.items)) source.old source.new other.old other.new desk.old desk.new status × (exit_status result ≡ number_of status)) }
     ensures no_text { IfErr given (λ error. error_kind error ≢ ErrorKind.OutOfMemory
-        → (status : Status) × RunsBeside D.tells D.seen D.stopped E.tells E.seen E.stopped [] other.old other.new desk.old desk.new status × (exit_status result ≡ number_of status)) }
+        → (status : Status) × RunsOver (record { left = S.left; faults = S.faults; tells = D.tells; seen = D.seen; stopped = D.stopped }) E.tells E.seen E.stopped [] source.old source.new other.old other.new desk.old desk.new status × (exit_status result ≡ number_of status)) }
     ensures no_memory { IfErr given (λ error. error_kind error ≡ ErrorKind.OutOfMemory
-        → (exit_status result ≡ number_of Status.NoMemory) × (desk.new ≡ desk.old) × (other.new ≡ other.old)) }
+        → (exit_status result ≡ number_of Status.NoMemory) × (source.new ≡ source.old) × (desk.new ≡ desk.old) × (other.new ≡ other.old)) }
 {
-    exit_code(run_given(alloc, given, desk, other))
+    exit_code(run_given(alloc, given, source, desk, other))
 }
 
 // Runs on the words that the system gave, over the files of the working folder and of another one at these paths, and ends the program as
@@ -112,7 +116,8 @@ fn ends_beside(
         Writes::new(io::writer(&errors)),
         Writes::new(io::writer(&errors)),
     );
-    ends(rt.alloc(), given, &mut desk, &mut other)
+    let mut source = FileSource::new(rt.reader());
+    ends(rt.alloc(), given, &mut source, &mut desk, &mut other)
 }
 
 fn main(rt: HostRuntime) -> ExitCode {

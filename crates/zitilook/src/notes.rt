@@ -1,10 +1,11 @@
 ghost use Rattle.std.specs.Prelude.{◌≡◌, IfOk, decimal, length};
 ghost use Rattle.std.specs.String.{string_bytes};
 ghost use Rattle.run_notes.specs.Notes.{file_number};
-ghost use Rattle.zitilook.specs.Notes.{absent_note, damaged_note, misnamed_note, notes_of, other_damaged_note, other_fault_note, unknown_note};
+ghost use Rattle.zitilook.specs.Notes.{absent_note, damaged_note, line_note, misnamed_note, notes_of, other_damaged_note, other_fault_note, unknown_note};
 
 use crate::status::Status;
 use arrayvec::ArrayString;
+use frame_lines::LineFault;
 use itoa::Buffer;
 use std::alloc::{AllocError, Global};
 use ziti_outside::Part;
@@ -15,8 +16,9 @@ pub fn status_note(status: Status) -> &'static [u8]
 {
     match status {
         Status::Usage =>
-            b"zitilook: usage: zitilook list KIND | show KIND NAME | why IDENTITY SERVICE | who SERVICE | dump | picture [CIRCUIT] | doctor | diff OTHER | help | version\n",
+            b"zitilook: usage: zitilook list KIND | show KIND NAME | why IDENTITY SERVICE | who SERVICE | dump | picture [CIRCUIT] | doctor | diff OTHER | plan | help | version\n",
         Status::Found => b"zitilook: something is wrong with the folder\n",
+        Status::ReadFault => b"zitilook: read fault\n",
         Status::WriteFault => b"zitilook: write fault\n",
         Status::DiskFault => b"zitilook: disk fault\n",
         Status::NoMemory => b"zitilook: no memory\n",
@@ -29,6 +31,14 @@ pub fn unknown_note(alloc: Global, word: &str) -> Result<String, AllocError>
     ensures { IfOk result (λ note. string_bytes note ≡ unknown_note word.now) }
 {
     format!(in alloc; "zitilook: unknown kind: {word}\n")
+}
+
+/// The note of a line of the input that says no frame.
+pub fn line_note(alloc: Global, fault: &LineFault) -> Result<String, AllocError>
+    ensures { IfOk result (λ note. string_bytes note ≡ line_note fault.now) }
+{
+    let text = fault.text(alloc)?;
+    format!(in alloc; "zitilook: {text}\n")
 }
 
 /// The note of a name that none of what is listed has.

@@ -10,8 +10,8 @@ use row_codec::{Batch, Row};
 use row_loading::{CoreFault, read_rows};
 use std::alloc::{AllocError, Global};
 
-// The rows that a batch puts, which are all those of a valid state in a format.
-fn rows_of(alloc: Global, format: Format, puts: &Batch) -> Result<Vec<Row>, AllocError>
+/// The rows that a batch puts, which are all those of a valid state in a format.
+pub(crate) fn rows_of(alloc: Global, format: Format, puts: &Batch) -> Result<Vec<Row>, AllocError>
     requires { (s : State) × AreThoseOf format s puts.now }
     ensures state { IfOk result (λ rows. (s : State) → AreThoseOf format s puts.now → state_in rows.items ≡ s) }
     ensures rows { IfOk result (λ rows. (s : State) → AreThoseOf format s puts.now → AreRowsOf format s rows.items) }

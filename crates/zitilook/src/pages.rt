@@ -17,6 +17,7 @@ pub fn page_text(page: Page) -> &'static [u8]
               picture [CIRCUIT]     the network as Mermaid, and in it the way of the circuit of this number\n\
               doctor                what is wrong with the files of the folder, and the way back\n\
               diff OTHER            the changes that lead from its state to that of the folder OTHER, a line each\n\
+              plan                  what the commands of the lines on standard input would change, and which are refused\n\
               help                  these lines\n\
               version               the version of the lines\n\
               KIND is identities, services, routers, links, service-policies, edge-router-policies, service-edge-router-policies, terminators, circuits or intercepts\n",

@@ -83,8 +83,8 @@ pub fn tell_closed<D: Desk>(fault: KeepFault, desk: &mut D) -> Status
     }
 }
 
-// Notes a word that names nothing, unless there was no memory for the note.
-fn tell_refused<D: Desk>(note: Result<String, AllocError>, desk: &mut D) -> Status
+/// Notes a word that names nothing, or a line of the input at fault, unless there was no memory for the note.
+pub fn tell_refused<D: Desk>(note: Result<String, AllocError>, desk: &mut D) -> Status
     ensures told { (wanted : List ℕ) → IfOk note (λ n. string_bytes n ≡ wanted) → Refuses wanted (D.seen desk.old) (D.seen desk.new) result }
     ensures ends { EndsSo D.seen D.stopped desk.old desk.new result }
 {

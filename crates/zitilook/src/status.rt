@@ -10,10 +10,14 @@ pub enum Status {
     Usage,
     /// All that was asked for was said, and something is wrong with the folder.
     Found,
-    /// The words name a kind or a record that there is not, or are no names.
+    /// The words name a kind or a record that there is not, or are no names; or a line of the input says no frame.
     Unknown,
-    /// Two folders differ, and what changes from the one to the other was said.
+    /// Two folders differ, or the commands of the input change something, and that was said.
     Differs,
+    /// A command of the input is refused, and the plan was said.
+    Refused,
+    /// The input failed.
+    ReadFault,
     /// The desk failed to take what was said.
     WriteFault,
     /// A call on the disk failed.
@@ -34,6 +38,8 @@ impl Status {
             Status::Usage => 1,
             Status::Found => 2,
             Status::Unknown | Status::Differs => 2,
+            Status::Refused => 3,
+            Status::ReadFault => 4,
             Status::WriteFault => 5,
             Status::DiskFault => 6,
             Status::Damaged => 7,

@@ -1,6 +1,6 @@
 ghost use Rattle.std.specs.Prelude.{◌≡◌, map};
 ghost use Rattle.std.specs.String.{string_bytes};
-ghost use Rattle.zitilook.specs.Words.{asked_alone, asked_of, asked_pair, asked_triple, asked_who, asked_why, is_diff, kind_of, listing, other_place, showing, word_at};
+ghost use Rattle.zitilook.specs.Words.{asked_alone, asked_of, asked_pair, asked_triple, asked_who, asked_why, is_diff, is_plan, kind_of, listing, other_place, showing, word_at};
 
 use ctrl_model::{Kind, Name};
 use record_lines::Listed;
@@ -182,6 +182,16 @@ pub fn is_diff(words: &[String]) -> bool
 {
     match words {
         [word, _] => word.as_str().as_bytes() == b"diff".as_slice(),
+        _ => false,
+    }
+}
+
+/// Whether the words ask what the commands of the input would change: `plan` alone.
+pub fn is_plan(words: &[String]) -> bool
+    ensures { result ≡ is_plan (map string_bytes words.now) }
+{
+    match words {
+        [word] => word.as_str().as_bytes() == b"plan".as_slice(),
         _ => false,
     }
 }

@@ -1,13 +1,14 @@
 ghost use Rattle.std.specs.Prelude.{◌≡◌, true, false, [], ◌∷◌, codes, None, Some, Ok, Err};
 ghost use Rattle.ctrl_model.specs.declared.kinds.Kind.TheVariants as kind;
 ghost use Rattle.ziti_outside.specs.declared.desk.Part.TheVariants.{Zero};
+ghost use Rattle.frame_lines.specs.declared.lines.LineCause.TheVariants.{UnknownType};
 ghost use Rattle.record_lines.specs.declared.listing.Listed.TheVariants.{Intercepts, Records};
 ghost use Rattle.zitilook.specs.declared.words.Asked.TheVariants.{List as Lists, Show, Why, Who, Dump, Picture, PictureOf, Doctor, Unknown, Misnamed, Tell};
 ghost use Rattle.zitilook.specs.declared.words.Page.TheVariants.{Help, Version};
 ghost use Rattle.zitilook.specs.declared.words.Place.TheVariants.{Second, Third};
 ghost use Rattle.zitilook.specs.Looks.{found};
-ghost use Rattle.zitilook.specs.Notes.{absent_note, damaged_note, misnamed_note, other_damaged_note, unknown_note};
-ghost use Rattle.zitilook.specs.Words.{asked_of, is_diff, other_place, word_at};
+ghost use Rattle.zitilook.specs.Notes.{absent_note, damaged_note, line_note, misnamed_note, other_damaged_note, unknown_note};
+ghost use Rattle.zitilook.specs.Words.{asked_of, is_diff, is_plan, other_place, word_at};
 
 /// What words ask for.
 pub fn worked_words()
@@ -67,4 +68,13 @@ pub fn worked_diffs()
     ensures place { other_place (codes "zitilook" ∷ codes "diff" ∷ codes "../copy" ∷ []) ≡ codes "../copy" }
     ensures no_place { other_place (codes "zitilook" ∷ codes "list" ∷ codes "links" ∷ []) ≡ codes "." }
     ensures damaged { other_damaged_note Zero 8 ≡ codes "zitilook: other folder: damaged: file 0 at 8\n" }
+{}
+
+/// The word that asks what the commands of the input would change, and the note of a line at fault.
+pub fn worked_plan_words()
+    ensures plan { is_plan (codes "plan" ∷ []) ≡ true }
+    ensures two { is_plan (codes "plan" ∷ codes "change.lines" ∷ []) ≡ false }
+    ensures other_word { is_plan (codes "doctor" ∷ []) ≡ false }
+    ensures none { is_plan [] ≡ false }
+    ensures fault { line_note (record { line = 2; cause = UnknownType }) ≡ codes "zitilook: line 2: unknown type\n" }
 {}

@@ -11,4 +11,4 @@ returns-clause-no_text g c = IfErr-weaker c.args.given _ _ (λ error runs other.
 
 pub returns-clause-no_memory : goal.returns-clause-no_memory
 returns-clause-no_memory g c =
-    IfErr-weaker c.args.given _ _ (λ error still is. let left = still is in (c.exit_code.ensures ∙ ap number_of left.0, left.1, left.2)) c.run_given.ensures.no_memory
+    IfErr-weaker c.args.given _ _ (λ error still is. let left = still is in (c.exit_code.ensures ∙ ap number_of left.0, left.1, left.2, left.3)) c.run_given.ensures.no_memory

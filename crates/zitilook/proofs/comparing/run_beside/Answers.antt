@@ -1,13 +1,11 @@
-use Rattle.std.proofs.Common.{◌≡◌, Bool, true, false, refl, sym, ◌∙◌}
+use Rattle.std.proofs.Common.{refl, sym, ◌∙◌}
+use Rattle.std.proofs.lemmas.Bool.{true≢false}
 use Rattle.zitilook.proofs.comparing.run_beside.Goals as goal
-
-both : {A : Type 0} (b : Bool) → b ≡ true → b ≡ false → A
-both b is other = absurd cc
 
 pub returns-then-is_diff : goal.returns-then-is_diff
 returns-then-is_diff g c = record {
   runs = record {
-    alone = λ other. both _ (sym c.is_diff.ensures ∙ c.if-is_diff.true) other;
+    alone = λ other. absurd (true≢false (sym (sym c.is_diff.ensures ∙ c.if-is_diff.true) ∙ other));
     beside = λ is. c.run_diff.ensures;
   };
 }
@@ -16,6 +14,6 @@ pub returns : goal.returns
 returns g c = record {
   runs = record {
     alone = λ is. (c.run.ensures.runs, refl);
-    beside = λ other. both _ other (sym c.is_diff.ensures ∙ c.if-is_diff.false);
+    beside = λ other. absurd (true≢false (sym other ∙ sym c.is_diff.ensures ∙ c.if-is_diff.false));
   };
 }

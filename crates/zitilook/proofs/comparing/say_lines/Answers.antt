@@ -1,22 +1,15 @@
-use Rattle.std.proofs.Common.{◌≡◌, ℕ, ◌==◌, true, false, List, [], ◌∷◌, length, eqb-true, sym, ◌∙◌}
-use Rattle.std.proofs.lemmas.List.{nil_from_length}
+use Rattle.std.proofs.Common.{◌≡◌, sym, ◌∙◌}
 use Rattle.zitilook.specs.declared.status.Status.TheVariants.{Done, Differs, WriteFault, DiskFault}
 use Rattle.zitilook.proofs.ComparingLaws.{lines_cut, lines_none, lines_whole}
 use Rattle.zitilook.proofs.FolderLaws.{noted_ends, said_ends, unsaid_ends}
+use Rattle.zitilook.proofs.SaidLaws.{no_text, some_text}
 use Rattle.zitilook.proofs.comparing.say_lines.Goals as goal
-
-no_lines : (lines : List ℕ) → (length lines == 0) ≡ true → lines ≡ []
-no_lines lines is = nil_from_length lines (eqb-true (length lines) 0 is)
-
-some_lines : (lines : List ℕ) → (length lines == 0) ≡ false → lines ≡ [] → ⊥
-some_lines [] is none = absurd cc
-some_lines (b ∷ bs) is none = absurd cc
 
 pub returns-then-is_empty-clause-says : goal.returns-then-is_empty-clause-says
 returns-then-is_empty-clause-says g c =
     let e = c.end_with.ensures in
     lines_none c.args.lines.now c.end_with.result (g.D.Desk.seen c.args.desk.now) (g.D.Desk.seen c.end_with.new.desk) e.status
-    (no_lines c.args.lines.now (sym c.is_empty.ensures ∙ c.if-is_empty.true)) e.others.replies e.noted
+    (no_text c.args.lines.now (sym c.is_empty.ensures ∙ c.if-is_empty.true)) e.others.replies e.noted
 
 pub returns-then-is_empty-clause-ends : goal.returns-then-is_empty-clause-ends
 returns-then-is_empty-clause-ends g c =
@@ -30,7 +23,7 @@ returns-in-Ok-clause-says g c =
     let o = c.say.ensures.others in
     let e = c.end_with-in-Ok.ensures in
     lines_whole c.args.lines.now c.end_with-in-Ok.result (g.D.Desk.seen c.args.desk.now) (g.D.Desk.seen c.say.new.self) (g.D.Desk.seen c.end_with-in-Ok.new.desk) e.status
-    (some_lines c.args.lines.now (sym c.is_empty.ensures ∙ c.if-is_empty.false)) c.in-Ok.ensures.taken e.others.replies o.notes o.failed_notes e.noted
+    (some_text c.args.lines.now (sym c.is_empty.ensures ∙ c.if-is_empty.false)) c.in-Ok.ensures.taken e.others.replies o.notes o.failed_notes e.noted
 
 pub returns-in-Ok-clause-ends : goal.returns-in-Ok-clause-ends
 returns-in-Ok-clause-ends g c =
@@ -45,7 +38,7 @@ returns-in-Err-clause-says g c =
     let o = c.say.ensures.others in
     let e = c.end_with-in-Err.ensures in
     lines_cut c.args.lines.now c.end_with-in-Err.result (g.D.Desk.seen c.args.desk.now) (g.D.Desk.seen c.say.new.self) (g.D.Desk.seen c.end_with-in-Err.new.desk) e.status
-    (some_lines c.args.lines.now (sym c.is_empty.ensures ∙ c.if-is_empty.false)) c.in-Err.ensures.taken e.others.replies o.notes o.failed_notes e.noted
+    (some_text c.args.lines.now (sym c.is_empty.ensures ∙ c.if-is_empty.false)) c.in-Err.ensures.taken e.others.replies o.notes o.failed_notes e.noted
 
 pub returns-in-Err-clause-ends : goal.returns-in-Err-clause-ends
 returns-in-Err-clause-ends g c =

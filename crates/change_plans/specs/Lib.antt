@@ -1,0 +1,3 @@
+pub mod PlannedLines
+pub mod PlanTurns
+pub mod WorkedPlans
