@@ -1,7 +1,7 @@
 use ctrl_model::{Bytes, Denial, Items};
 
 /// What meets a rule or fails it: items under a key (docs/FORMATS.md, "Reasons").
-#[derive(Debug, Drop)]
+#[derive(Drop)]
 pub struct Part {
     pub key: Bytes,
     /// Names, numbers in decimal and words.
@@ -9,7 +9,7 @@ pub struct Part {
 }
 
 /// What was found of a rule of a circuit request, which is named by the denial that it gives where it fails.
-#[derive(Debug, Drop)]
+#[derive(Drop)]
 pub struct Finding {
     pub rule: Denial,
     /// Whether the rule fails.
@@ -21,7 +21,7 @@ pub struct Finding {
 pub type Findings = Items<Finding>;
 
 /// Which sides of a policy match.
-#[derive(Clone, Copy, Debug, PartialEq, Eq)]
+#[derive(Clone, Copy, PartialEq, Eq)]
 pub enum Sides {
     /// Both.
     Both,
@@ -32,7 +32,7 @@ pub enum Sides {
 }
 
 /// Whether a circuit may end at a terminator, or the first cause why not.
-#[derive(Clone, Copy, Debug, PartialEq, Eq)]
+#[derive(Clone, Copy, PartialEq, Eq)]
 pub enum Standing {
     Admissible,
     /// Its router is not connected.

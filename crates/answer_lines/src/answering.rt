@@ -14,7 +14,7 @@ use std::alloc::{AllocError, Global};
 use std::collections::VecDeque;
 
 /// Why a text is none of requests and replies.
-#[derive(Clone, Copy, Debug, PartialEq, Eq)]
+#[derive(Clone, Copy, PartialEq, Eq)]
 pub enum AnswerFault {
     /// A line before the replies says no request.
     NoRequest(LineFault),
@@ -35,7 +35,7 @@ impl AnswerFault {
 }
 
 /// The lines of the requests of a text with their answers and of its replies to no request, or its fault. Then there are no lines.
-#[derive(Debug, Drop)]
+#[derive(Drop)]
 pub struct Answered {
     pub told: Bytes,
     /// Whether a request is refused or unanswered, or a reply is to no request.

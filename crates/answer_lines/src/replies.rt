@@ -9,7 +9,7 @@ use std::alloc::{AllocError, Global};
 use std::collections::VecDeque;
 
 /// A reply as a line tells it: the sequence number of its request, whether it had success, and its words behind the number.
-#[derive(Debug, Drop)]
+#[derive(Drop)]
 pub struct ReplyLine {
     pub sequence: u32,
     pub success: bool,

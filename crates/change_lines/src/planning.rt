@@ -22,7 +22,7 @@ use slot_reading::Rows;
 use std::alloc::{AllocError, Global};
 
 /// What the commands of a text would do to a state.
-#[derive(Debug, Drop)]
+#[derive(Drop)]
 pub struct Plan {
     /// The lines of the changes, and behind them a line for each command that is refused.
     pub text: Bytes,

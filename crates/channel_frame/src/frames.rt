@@ -3,7 +3,7 @@ use std::alloc::AllocError;
 use thiserror::Error;
 
 /// A header of a frame: a key and its bytes.
-#[derive(Debug, Drop)]
+#[derive(Drop)]
 pub struct Header {
     pub key: u32,
     pub value: Bytes,
@@ -23,7 +23,7 @@ impl Copies for Header {
 pub type Headers = Items<Header>;
 
 /// A channel frame: its content type, its sequence number, its headers and its body.
-#[derive(Debug, Drop)]
+#[derive(Drop)]
 pub struct Frame {
     pub content: u32,
     pub sequence: u32,
@@ -60,7 +60,7 @@ pub const LONGEST_HEADERS: u32 = 65_536;
 pub const LONGEST_BODY: u32 = 1_048_576;
 
 /// What the first 20 bytes of a frame say: its content type, its sequence number and the lengths of its two parts.
-#[derive(Clone, Copy, Debug, PartialEq, Eq)]
+#[derive(Clone, Copy, PartialEq, Eq)]
 pub struct Head {
     pub content: u32,
     pub sequence: u32,
@@ -99,7 +99,7 @@ impl From<AllocError> for FrameFault {
 }
 
 /// What stands at the front of a session's bytes, in the words of the definitions.
-#[derive(Debug, Drop)]
+#[derive(Drop)]
 pub enum Front {
     /// An unfinished frame, or nothing.
     Short,

@@ -20,7 +20,7 @@ pub struct View<'a> {
 }
 
 /// The ingress that a request names.
-#[derive(Clone, Copy, Debug, PartialEq, Eq)]
+#[derive(Clone, Copy, PartialEq, Eq)]
 pub enum Wanted {
     /// It names none.
     Any,
@@ -31,7 +31,7 @@ pub enum Wanted {
 }
 
 /// A circuit request, its names looked up; an identity or a service that is absent has no number.
-#[derive(Debug, Drop)]
+#[derive(Drop)]
 pub struct Ask {
     pub identity: Option<IdentityNo>,
     pub service: Option<ServiceNo>,
@@ -40,7 +40,7 @@ pub struct Ask {
 }
 
 /// A route: from its ingress over links to the router of its terminator. The total is what the terminator and the path cost.
-#[derive(Debug, Drop)]
+#[derive(Drop)]
 pub struct Route {
     pub ingress: RouterNo,
     pub links: Numbers,

@@ -13,7 +13,7 @@ use path_search::CostSearch;
 use std::alloc::{AllocError, Global};
 
 /// What becomes of circuits that do not stay as they are: the numbers of those that end, and the moves of the others.
-#[derive(Debug, Drop)]
+#[derive(Drop)]
 pub struct Judged {
     pub ended: Numbers,
     pub moves: Moves,

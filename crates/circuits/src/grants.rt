@@ -5,7 +5,7 @@ use std::marker::Model;
 
 /// A granted circuit: who uses which service at which terminator, from which router on, and over which links (docs/RULES.md,
 /// "Circuits"). Contracts see it as a circuit of the controller's state.
-#[derive(Debug, Drop)]
+#[derive(Drop)]
 pub struct Circuit {
     pub identity: IdentityNo,
     pub service: ServiceNo,
@@ -26,7 +26,7 @@ impl Model for Circuit {
 
 /// A circuit as it will be: its links are lent, the rest are values (`Circuit`). Contracts see it as a circuit of the controller's
 /// state.
-#[derive(Debug, Drop)]
+#[derive(Drop)]
 pub struct CircuitView<'a> {
     pub identity: IdentityNo,
     pub service: ServiceNo,

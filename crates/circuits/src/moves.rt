@@ -7,7 +7,7 @@ use ctrl_model::{CircuitNo, Items, Numbers};
 use record_tables::NumberedTable;
 
 /// A circuit that goes over other links from now on: its number, and these links.
-#[derive(Debug, Drop)]
+#[derive(Drop)]
 pub struct Move {
     pub circuit: CircuitNo,
     pub links: Numbers,

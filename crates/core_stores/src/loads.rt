@@ -50,7 +50,7 @@ fn count_more(stores: &mut Stores, no: TermNo)
 }
 
 /// Where the loads of terminators change.
-#[derive(Clone, Copy, Debug, PartialEq, Eq)]
+#[derive(Clone, Copy, PartialEq, Eq)]
 pub enum Loads {
     /// Nowhere.
     Same,

@@ -15,7 +15,7 @@ use std::str;
 use thiserror::Error;
 
 /// An address of an intercept (docs/RULES.md, "Intercepts").
-#[derive(Debug, Drop)]
+#[derive(Drop)]
 pub enum Address {
     /// A host, in small letters.
     Host { text: Bytes },

@@ -7,7 +7,7 @@ use std::alloc::AllocError;
 pub type Potentials = Items<u64>;
 
 /// The least costs of paths to one router.
-#[derive(Debug, Drop)]
+#[derive(Drop)]
 pub struct Reach {
     pub router: RouterNo,
     pub values: Potentials,
@@ -28,7 +28,7 @@ pub type Reaches = Items<Reach>;
 
 /// A route with what shows that it is the least: the numbers of all routers, and for each router that carries a
 /// terminator of the route's precedence or a better one the least costs of paths to it.
-#[derive(Debug, Drop)]
+#[derive(Drop)]
 pub struct Explanation {
     pub ingress: RouterNo,
     pub links: Numbers,

@@ -6,7 +6,7 @@ use crate::items::{Copies, Items};
 use std::alloc::AllocError;
 
 /// The ports from one to another, both included: 1 to 65,535, and the lowest is not above the highest.
-#[derive(Clone, Copy, Debug, PartialEq, Eq)]
+#[derive(Clone, Copy, PartialEq, Eq)]
 pub struct PortRange {
     pub low: u16,
     pub high: u16,
@@ -38,7 +38,7 @@ pub struct ProtocolSet {
 }
 
 /// What a service claims of the network (docs/RULES.md, "Intercepts"): protocols, addresses and ports.
-#[derive(Debug, Drop)]
+#[derive(Drop)]
 pub struct Intercept {
     pub tcp: bool,
     pub udp: bool,

@@ -22,7 +22,7 @@ fn copy_each<T: Copies + Drop>(alloc: Global, values: &[T]) -> Result<Vec<T>, Al
 }
 
 /// A list of values, in order and with repeats. Contracts see the list.
-#[derive(Debug, Drop)]
+#[derive(Drop)]
 pub struct Items<T> {
     pub items: Vec<T>,
 }

@@ -17,7 +17,7 @@ pub enum Kind {
 }
 
 /// Who sends: the role of a session.
-#[derive(Debug, Drop)]
+#[derive(Drop)]
 pub enum Who {
     Admin,
     Router(Name),
@@ -25,14 +25,14 @@ pub enum Who {
 }
 
 /// Whether an entity needs one of a side's attributes or all of them.
-#[derive(Clone, Copy, Debug, PartialEq, Eq)]
+#[derive(Clone, Copy, PartialEq, Eq)]
 pub enum Semantic {
     AnyOf,
     AllOf,
 }
 
 /// The precedence of a terminator: a required one comes before a default one, and this before a failed one.
-#[derive(Clone, Copy, Debug, PartialEq, Eq, PartialOrd, Ord)]
+#[derive(Clone, Copy, PartialEq, Eq, PartialOrd, Ord)]
 pub enum Precedence {
     Required,
     /// Written `default`.
@@ -41,7 +41,7 @@ pub enum Precedence {
 }
 
 /// What policies grant: Dial and Bind of an identity on a service, a router to an identity, a router to a service.
-#[derive(Clone, Copy, Debug, PartialEq, Eq)]
+#[derive(Clone, Copy, PartialEq, Eq)]
 pub enum Relation {
     Dial,
     Bind,
@@ -50,7 +50,7 @@ pub enum Relation {
 }
 
 /// One entry of a role list: `#all`, `@` with an entity's name, or `#` with an attribute.
-#[derive(Debug, Drop)]
+#[derive(Drop)]
 pub enum Role {
     All,
     Id(Name),
@@ -58,7 +58,7 @@ pub enum Role {
 }
 
 /// One side of a policy, as a role list says it: whether it is `#all`, the names with `@`, the attributes with `#`.
-#[derive(Debug, Drop)]
+#[derive(Drop)]
 pub struct Side {
     pub all: bool,
     pub ids: Names,
@@ -66,7 +66,7 @@ pub struct Side {
 }
 
 /// A present router as routes see it. `through` is false for a router that no path may pass through.
-#[derive(Clone, Copy, Debug, PartialEq, Eq)]
+#[derive(Clone, Copy, PartialEq, Eq)]
 pub struct RouterSeen {
     pub no: RouterNo,
     /// What a path pays to enter the router, 0 to 65,535.

@@ -124,7 +124,7 @@ pub enum Denial {
 }
 
 /// Why a command is refused (docs/RULES.md, "Refusals"). A refused command changes nothing.
-#[derive(Debug, Drop)]
+#[derive(Drop)]
 pub enum Refusal {
     /// No command has the content type.
     UnsupportedType,

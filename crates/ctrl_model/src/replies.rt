@@ -6,7 +6,7 @@ use crate::texts::{Bytes, Name, Names};
 use std::alloc::AllocError;
 
 /// A name and how many policies grant it.
-#[derive(Debug, Drop)]
+#[derive(Drop)]
 pub struct Tally {
     pub name: Name,
     pub count: u32,
@@ -26,7 +26,7 @@ impl Copies for Tally {
 pub type Tallies = Items<Tally>;
 
 /// The reply to a command (docs/FORMATS.md, "Replies").
-#[derive(Debug, Drop)]
+#[derive(Drop)]
 pub enum Reply {
     /// To Hello.
     Empty,

@@ -11,7 +11,7 @@ use thiserror::Error;
 /// A name of an entity, a link, a policy or an attribute: 1 to 64 bytes of `A-Z a-z 0-9 . _ -` (docs/RULES.md, "Names").
 ///
 /// Contracts see a name as the list of its bytes.
-#[derive(Debug, Drop)]
+#[derive(Drop)]
 pub struct Name {
     bytes: Vec<u8>,
 }
@@ -102,7 +102,7 @@ impl Copies for Name {
 /// The instance of a terminator: a name, or the empty text.
 ///
 /// Contracts see an instance as the list of its bytes.
-#[derive(Debug, Drop)]
+#[derive(Drop)]
 pub struct Instance {
     bytes: Vec<u8>,
 }

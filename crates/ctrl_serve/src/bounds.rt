@@ -1,5 +1,5 @@
 /// The bounds of a run, in bytes.
-#[derive(Clone, Copy, Debug, PartialEq, Eq)]
+#[derive(Clone, Copy, PartialEq, Eq)]
 pub struct Bounds {
     /// How much of the input is used: 0 to 2^32.
     pub input: u64,

@@ -4,7 +4,7 @@ ghost use Rattle.ctrl_serve.specs.CommandLine.{form_of, is_padded, number_below,
 use ctrl_model::Name;
 
 /// What a line of words runs.
-#[derive(Clone, Copy, Debug, PartialEq, Eq)]
+#[derive(Clone, Copy, PartialEq, Eq)]
 pub enum Form {
     /// Plain input, without a folder.
     Dry,

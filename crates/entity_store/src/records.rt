@@ -55,7 +55,7 @@ impl Named for KeptRouter {
 
 /// An identity or a service, or a router by its name and attributes alone, as it is: both are lent. Contracts see it as an entity of
 /// the controller's state.
-#[derive(Debug, Drop)]
+#[derive(Drop)]
 pub struct EntityView<'a> {
     pub name: &'a Name,
     pub attributes: &'a Names,
@@ -71,7 +71,7 @@ impl<'a> Model for EntityView<'a> {
 
 /// An edge router as it is: its name and its attributes are lent, the rest are values. Contracts see it as a router of the
 /// controller's state.
-#[derive(Debug, Drop)]
+#[derive(Drop)]
 pub struct RouterView<'a> {
     pub name: &'a Name,
     pub attributes: &'a Names,

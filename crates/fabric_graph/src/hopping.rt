@@ -9,7 +9,7 @@ use crate::links::LinkView;
 use ctrl_model::{LinkNo, RouterNo, RouterSeen};
 
 /// Where a hop leads, and what its link and entering the router cost together.
-#[derive(Clone, Copy, Debug, PartialEq, Eq)]
+#[derive(Clone, Copy, PartialEq, Eq)]
 pub struct Hop {
     pub to: RouterNo,
     pub cost: u64,

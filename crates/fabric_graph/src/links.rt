@@ -8,7 +8,7 @@ use std::marker::Model;
 
 /// A link between the routers `a` and `b`. A path pays its cost, 1 to 65,535, and the latencies that its two ends report, 0 to
 /// 60,000 each. Contracts see it as a link of the controller's state.
-#[derive(Debug, Drop)]
+#[derive(Drop)]
 pub struct LinkRow {
     pub name: Name,
     pub a: RouterNo,
@@ -52,7 +52,7 @@ impl Clone for LinkRow {
 }
 
 /// A link as it will be: its name is lent, the rest are values (`LinkRow`). Contracts see it as a link of the controller's state.
-#[derive(Debug, Drop)]
+#[derive(Drop)]
 pub struct LinkView<'a> {
     pub name: &'a Name,
     pub a: RouterNo,

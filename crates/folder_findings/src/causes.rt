@@ -12,7 +12,7 @@ use std::alloc::{AllocError, Global};
 use ziti_outside::{Desk, Part};
 
 /// Why a folder opens to no state.
-#[derive(Clone, Copy, Debug, PartialEq, Eq)]
+#[derive(Clone, Copy, PartialEq, Eq)]
 pub enum Cause {
     /// The slot that stands begins with the header of neither format.
     NoHeader,
@@ -27,7 +27,7 @@ pub enum Cause {
 }
 
 /// Whether a folder opens to a state.
-#[derive(Clone, Copy, Debug, PartialEq, Eq)]
+#[derive(Clone, Copy, PartialEq, Eq)]
 pub enum Verdict {
     /// It does.
     Opens,

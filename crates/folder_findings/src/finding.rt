@@ -11,7 +11,7 @@ use journal_core::{HEADER_LEN, header};
 use ziti_outside::{Desk, Failed, Part};
 
 /// What is found in the bytes of a slot.
-#[derive(Clone, Copy, Debug, PartialEq, Eq)]
+#[derive(Clone, Copy, PartialEq, Eq)]
 pub enum FoundSlot {
     /// They begin with the header of neither format.
     Headless {
@@ -31,7 +31,7 @@ pub enum FoundSlot {
 }
 
 /// What is found in the files of a folder.
-#[derive(Clone, Copy, Debug, PartialEq, Eq)]
+#[derive(Clone, Copy, PartialEq, Eq)]
 pub struct FoundFiles {
     /// How many bytes the mark has.
     pub mark: u64,

@@ -13,7 +13,7 @@ const OPEN: u8 = 1;
 const LENGTH: u64 = 4;
 
 /// What stands at a gate behind whole records.
-#[derive(Clone, Copy, Debug, PartialEq, Eq)]
+#[derive(Clone, Copy, PartialEq, Eq)]
 pub enum Gate {
     /// A byte that is not 1.
     Closed,
@@ -24,7 +24,7 @@ pub enum Gate {
 }
 
 /// Whole records of a slot, one behind another, and the gate at which they end.
-#[derive(Clone, Copy, Debug, PartialEq, Eq)]
+#[derive(Clone, Copy, PartialEq, Eq)]
 pub struct Span {
     /// How many there are.
     pub records: u64,

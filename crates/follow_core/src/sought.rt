@@ -1,5 +1,5 @@
 /// Where kept records are sought: behind the gate at a place, before which stands the record of a serial.
-#[derive(Clone, Copy, Debug, PartialEq, Eq)]
+#[derive(Clone, Copy, PartialEq, Eq)]
 pub struct Sought {
     /// The serial of the first record.
     pub first: u64,

@@ -1,5 +1,5 @@
 /// What became of a frame that was shipped.
-#[derive(Clone, Copy, Debug, PartialEq, Eq)]
+#[derive(Clone, Copy, PartialEq, Eq)]
 pub enum Taken {
     /// The batch was kept: the copy has the rows after it.
     Took,

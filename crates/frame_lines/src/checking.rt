@@ -16,7 +16,7 @@ use ctrl_model::Bytes;
 use std::alloc::{AllocError, Global};
 
 /// The lines that tell all faults of a text, each with its newline, and the first of the faults.
-#[derive(Debug, Drop)]
+#[derive(Drop)]
 pub struct Checked {
     pub told: Bytes,
     pub fault: Option<LineFault>,

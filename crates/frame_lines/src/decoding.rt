@@ -12,7 +12,7 @@ use std::marker::PhantomData;
 
 /// The lines of the items of some bytes, each with its newline, and what ended them early. Then the lines are those of the items before
 /// it.
-#[derive(Debug, Drop)]
+#[derive(Drop)]
 pub struct Decoded {
     pub text: Bytes,
     pub fault: Option<DecodeFault>,
@@ -20,7 +20,7 @@ pub struct Decoded {
 
 /// What a turn over some bytes told: the lines of their whole items, how many bytes these have, the number and the place of the item that
 /// comes next, and what ended the telling, if something did.
-#[derive(Debug, Drop)]
+#[derive(Drop)]
 pub struct Turned {
     lines: Bytes,
     used: usize,
@@ -30,7 +30,7 @@ pub struct Turned {
 }
 
 /// Items of a kind whose bytes come in pieces, told as lines: each line comes with the piece with which its item is whole.
-#[derive(Debug, Drop)]
+#[derive(Drop)]
 pub struct LineTelling<K> {
     kind: PhantomData<K>,
     // The bytes that are no whole item as yet.

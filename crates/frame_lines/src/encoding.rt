@@ -11,7 +11,7 @@ use ctrl_model::Bytes;
 use std::alloc::{AllocError, Global};
 
 /// The frames of a text's lines, joined, and the first line that says none. Then the frames are those of the lines before it.
-#[derive(Debug, Drop)]
+#[derive(Drop)]
 pub struct Encoded {
     pub bytes: Bytes,
     pub fault: Option<LineFault>,

@@ -2,7 +2,7 @@ use crate::told::DecodeCause;
 use std::alloc::{AllocError, Global};
 
 /// What became of the front of some bytes.
-#[derive(Clone, Copy, Debug, PartialEq, Eq)]
+#[derive(Clone, Copy, PartialEq, Eq)]
 pub enum Turn {
     /// Less than one item stands there.
     Short,

@@ -6,7 +6,7 @@ use ctrl_model::Bytes;
 use std::alloc::{AllocError, Global};
 
 /// What a line says: a sequence number, if it has one of its own, a content type and a body.
-#[derive(Debug, Drop)]
+#[derive(Drop)]
 pub struct Line {
     pub sequence: Option<u32>,
     pub content: u32,

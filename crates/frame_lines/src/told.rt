@@ -6,7 +6,7 @@ use channel_frame::FrameFault;
 use std::alloc::{AllocError, Global};
 
 /// Why no line tells a frame.
-#[derive(Clone, Copy, Debug, PartialEq, Eq)]
+#[derive(Clone, Copy, PartialEq, Eq)]
 pub enum TellCause {
     /// The frame has headers, and is no reply with exactly its two.
     Headers,
@@ -19,7 +19,7 @@ pub enum TellCause {
 }
 
 /// Why the telling of frames ended early.
-#[derive(Clone, Copy, Debug, PartialEq, Eq)]
+#[derive(Clone, Copy, PartialEq, Eq)]
 pub enum DecodeCause {
     /// No line tells the frame.
     Untold(TellCause),
@@ -32,7 +32,7 @@ pub enum DecodeCause {
 }
 
 /// What ended the telling of frames early: the number of the frame, from 1, and why.
-#[derive(Clone, Copy, Debug, PartialEq, Eq)]
+#[derive(Clone, Copy, PartialEq, Eq)]
 pub struct DecodeFault {
     pub frame: u64,
     pub cause: DecodeCause,

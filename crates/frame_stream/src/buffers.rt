@@ -4,7 +4,7 @@ use std::alloc::{AllocError, Global};
 use std::marker::Model;
 
 /// Bytes that come at the back and go from the front. Contracts see the list of those that are there.
-#[derive(Debug, Drop)]
+#[derive(Drop)]
 pub struct Buffer {
     start: usize,
     items: Vec<u8>,

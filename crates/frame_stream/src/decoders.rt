@@ -14,7 +14,7 @@ use std::marker::Model;
 /// The bytes of one session that were not given as frames yet.
 ///
 /// Contracts see how many bytes were given, the bytes held, and the fault that was met.
-#[derive(Debug, Drop)]
+#[derive(Drop)]
 pub struct Decoder {
     alloc: Global,
     given: u64,

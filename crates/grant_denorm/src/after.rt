@@ -11,7 +11,7 @@ use std::marker::Model;
 
 /// Counts as they will be once some steps are taken, if there are any. Contracts see the counts and the
 /// steps of each pair (`count_after`).
-#[derive(Debug, Drop)]
+#[derive(Drop)]
 pub struct CountedAfter<'a> {
     counted: &'a Counted,
     ups: Counted,

@@ -8,7 +8,7 @@ use std::collections::BTreeMap;
 use std::marker::Model;
 
 /// Counts above 0 of pairs of numbers. Contracts see the pairs with their counts, in order.
-#[derive(Debug, Drop)]
+#[derive(Drop)]
 pub struct Counted {
     counts: BTreeMap<(u32, u32), u32>,
 }

@@ -9,7 +9,7 @@ use ctrl_model::Numbers;
 use std::alloc::{AllocError, Global};
 
 /// A step of the count of one pair, up or down.
-#[derive(Clone, Copy, Debug, PartialEq, Eq)]
+#[derive(Clone, Copy, PartialEq, Eq)]
 pub struct Delta {
     pub a: u32,
     pub b: u32,
@@ -17,14 +17,14 @@ pub struct Delta {
 }
 
 /// The members of a policy's two sides, whose product are the pairs that it grants.
-#[derive(Debug, Drop)]
+#[derive(Drop)]
 pub struct Cross {
     pub left: Numbers,
     pub right: Numbers,
 }
 
 /// What one policy grants an entity from a change on, or grants it no more: the entities that it is paired with.
-#[derive(Debug, Drop)]
+#[derive(Drop)]
 pub struct Turn {
     pub up: bool,
     pub partners: Numbers,

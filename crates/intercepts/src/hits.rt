@@ -9,7 +9,7 @@ use ctrl_model::{Address, Intercept, PortRange};
 use std::marker::Model;
 
 /// The hit that is picked, whose address is lent. Contracts see it as a hit.
-#[derive(Debug, Drop)]
+#[derive(Drop)]
 pub struct Picked<'a> {
     /// The number of the service.
     pub service: u32,

@@ -43,7 +43,7 @@ pub fn empty_slot(format: Format) -> [u8; 9]
 /// A payload of 1 to 2^30 bytes, ready to be appended: its length, the payload, and the closed gate that follows.
 ///
 /// Contracts see the payload.
-#[derive(Debug, Drop)]
+#[derive(Drop)]
 pub struct Packed {
     text: Vec<u8>,
 }

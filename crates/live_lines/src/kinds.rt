@@ -1,5 +1,5 @@
 /// What bytes are, of which lines are told.
-#[derive(Clone, Copy, Debug, PartialEq, Eq)]
+#[derive(Clone, Copy, PartialEq, Eq)]
 pub enum Kind {
     /// Frames.
     Frames,

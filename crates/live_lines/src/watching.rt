@@ -17,7 +17,7 @@ use ziti_outside::{Desk, Failed, Source};
 const PIECE: usize = 65_536;
 
 /// Why a telling was cut short.
-#[derive(Clone, Copy, Debug)]
+#[derive(Clone, Copy)]
 pub enum Cut {
     /// There is no memory.
     NoMemory,

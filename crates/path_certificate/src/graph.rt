@@ -5,7 +5,7 @@ ghost use Rattle.path_certificate.specs.Graphs.{IsGraph, counts};
 use std::marker::Model;
 
 /// A step from a place over a link to another place, at a cost of at least 1.
-#[derive(Clone, Copy, Debug, PartialEq, Eq)]
+#[derive(Clone, Copy, PartialEq, Eq)]
 pub struct Step {
     pub from: u16,
     pub to: u16,
@@ -16,7 +16,7 @@ pub struct Step {
 /// Places, of which each may be passed through or not, and the steps between them in the order of place and link.
 ///
 /// Contracts see the flags and the steps as lists.
-#[derive(Debug, Drop)]
+#[derive(Drop)]
 pub struct Graph {
     through: Vec<bool>,
     steps: Vec<Step>,

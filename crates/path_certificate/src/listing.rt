@@ -7,7 +7,7 @@ use std::alloc::{AllocError, Global};
 use std::marker::Model;
 
 /// An end of a step: the place that it leaves, or the one that it leads to.
-#[derive(Clone, Copy, Debug, PartialEq, Eq)]
+#[derive(Clone, Copy, PartialEq, Eq)]
 pub enum StepEnd {
     From,
     To,
@@ -24,7 +24,7 @@ fn place_at(end: StepEnd, step: &Step) -> u16
 }
 
 // Some steps. Contracts see the list.
-#[derive(Debug, Drop)]
+#[derive(Drop)]
 struct StepList {
     steps: Vec<Step>,
 }
@@ -39,7 +39,7 @@ impl Model for StepList {
 }
 
 /// Steps in lists, one for each place. Contracts see the lists.
-#[derive(Debug, Drop)]
+#[derive(Drop)]
 pub struct StepLists {
     lists: Vec<StepList>,
 }

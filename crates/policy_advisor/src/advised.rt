@@ -1,7 +1,7 @@
 use ctrl_model::{Denial, Items, Name, Numbers};
 
 /// What a policy that grants Dial says of an identity and a service.
-#[derive(Debug, Drop)]
+#[derive(Drop)]
 pub struct Marked {
     /// The policy's name.
     pub name: Name,
@@ -16,7 +16,7 @@ pub type Marks = Items<Marked>;
 
 /// The advice on an identity and a service (docs/RULES.md, "Advice"). Where one of them is absent the counts are 0 and the lists of
 /// routers empty; where the service is, those of terminators are too.
-#[derive(Debug, Drop)]
+#[derive(Drop)]
 pub struct Advice {
     /// How many policies grant the identity Dial on the service.
     pub dial: u32,

@@ -12,7 +12,7 @@ use std::marker::Model;
 
 /// A policy: its name, what it grants, how its sides take attributes, and its two sides. Contracts see it as a policy of the
 /// controller's state.
-#[derive(Debug, Drop)]
+#[derive(Drop)]
 pub struct Policy {
     pub name: Name,
     pub relation: Relation,

@@ -5,7 +5,7 @@ use grant_denorm::Delta;
 use std::alloc::Global;
 
 /// The steps that the grant counts of each relation take.
-#[derive(Debug, Drop)]
+#[derive(Drop)]
 pub struct GrantSteps {
     pub dial: Vec<Delta>,
     pub bind: Vec<Delta>,

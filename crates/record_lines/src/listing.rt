@@ -14,7 +14,7 @@ use row_codec::Row;
 use std::alloc::{AllocError, Global};
 
 /// What is listed of a state.
-#[derive(Clone, Copy, Debug, PartialEq, Eq)]
+#[derive(Clone, Copy, PartialEq, Eq)]
 pub enum Listed {
     /// The records of a kind, each under its number.
     Records(Kind),

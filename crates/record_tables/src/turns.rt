@@ -7,7 +7,7 @@ use crate::touching::unless_gone;
 use ctrl_model::Numbers;
 
 /// What a change does to a table of records, of which a V shows one.
-#[derive(Debug, Drop)]
+#[derive(Drop)]
 pub enum Turn<V: Drop> {
     /// A record comes, under the next number.
     Adds(V),

@@ -5,14 +5,14 @@ ghost use Rattle.route_choice.specs.RouteChoices.{costs_to, AreSmall, is_before,
 use ctrl_model::{Potentials, Precedence, RouterNo, TermNo};
 
 /// A router where a circuit may enter, and its place.
-#[derive(Clone, Copy, Debug, PartialEq, Eq)]
+#[derive(Clone, Copy, PartialEq, Eq)]
 pub struct Entry {
     pub place: u16,
     pub router: RouterNo,
 }
 
 /// A terminator where a circuit may end, and the place of its router.
-#[derive(Clone, Copy, Debug, PartialEq, Eq)]
+#[derive(Clone, Copy, PartialEq, Eq)]
 pub struct Exit {
     pub place: u16,
     pub terminator: TermNo,
@@ -22,7 +22,7 @@ pub struct Exit {
 
 /// A terminator and an ingress with a path between them, which costs this much in all. The fields stand in the order in which
 /// choices are compared; the last two, the places of ingress and terminator, only go with the two before.
-#[derive(Clone, Copy, Debug, PartialEq, Eq, PartialOrd, Ord)]
+#[derive(Clone, Copy, PartialEq, Eq, PartialOrd, Ord)]
 pub struct Choice {
     pub precedence: Precedence,
     pub total: u32,

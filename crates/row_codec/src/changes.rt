@@ -4,7 +4,7 @@ use ctrl_model::{Bytes, Copies, Items};
 use std::alloc::AllocError;
 
 /// One change of rows: a row put under its key, or the row at a key deleted.
-#[derive(Debug, Drop)]
+#[derive(Drop)]
 pub enum Op {
     Put { key: Bytes, value: Bytes },
     Delete { key: Bytes },
@@ -31,7 +31,7 @@ impl Copies for Op {
 pub type Batch = Items<Op>;
 
 /// The row at a key before and after a change, where there is one.
-#[derive(Debug, Drop)]
+#[derive(Drop)]
 pub struct Change {
     pub key: Bytes,
     pub before: Option<Bytes>,

@@ -5,7 +5,7 @@ use ctrl_model::{
 
 /// A row of the folder: one variant for each table, with the fields of its key and then those of its value
 /// (docs/FORMATS.md, "Rows").
-#[derive(Debug, Drop)]
+#[derive(Drop)]
 pub enum Row {
     /// The next number of a kind, which is numbered 1 to 9 in the order of `Kind`. There where it is above 1.
     Next {

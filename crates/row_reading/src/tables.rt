@@ -5,7 +5,7 @@ ghost use Rattle.row_reading.specs.RowReading.{table_seen, row_table_of};
 use ctrl_model::{Kind, Relation};
 
 /// A table of the folder.
-#[derive(Clone, Copy, Debug, PartialEq, Eq)]
+#[derive(Clone, Copy, PartialEq, Eq)]
 pub(crate) enum Table {
     /// The next numbers.
     Next,

@@ -1,5 +1,5 @@
 /// How many bytes the parts of a folder may have.
-#[derive(Clone, Copy, Debug, PartialEq, Eq)]
+#[derive(Clone, Copy, PartialEq, Eq)]
 pub struct StoreBounds {
     /// Of a slot: 64 to 2^30.
     pub slot: u64,

@@ -3,7 +3,7 @@ ghost use Rattle.row_codec.specs.NarrowedRows.{is_count_key};
 ghost use Rattle.row_store.specs.WrittenRows.{value_as};
 
 /// How the rows of a store are written anew.
-#[derive(Clone, Copy, Debug, PartialEq, Eq)]
+#[derive(Clone, Copy, PartialEq, Eq)]
 pub(crate) enum Writing {
     /// As they are.
     Same,

@@ -4,7 +4,7 @@ use std::alloc::AllocError;
 use thiserror::Error;
 
 /// What happens to sessions, in the order in which the bytes of the input decide it.
-#[derive(Debug, Drop)]
+#[derive(Drop)]
 pub enum Event {
     /// A trace opened a session.
     Opened { session: u8, who: Who },

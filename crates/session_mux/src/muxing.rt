@@ -18,7 +18,7 @@ use std::marker::Model;
 /// Many sessions whose bytes come in one input.
 ///
 /// Contracts see where they stand: the form, the input that is held, how many bytes came before it, and each session.
-#[derive(Debug, Drop)]
+#[derive(Drop)]
 pub struct Mux {
     alloc: Global,
     form: Form,

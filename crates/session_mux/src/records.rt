@@ -4,7 +4,7 @@ ghost use Rattle.session_mux.specs.RecordSteps.{IsLook, says_role};
 use ctrl_model::Name;
 
 /// What stands at the front of a trace, before it is known which sessions are open.
-#[derive(Clone, Copy, Debug, PartialEq, Eq)]
+#[derive(Clone, Copy, PartialEq, Eq)]
 pub enum Look {
     /// Less than a record.
     Unfinished,

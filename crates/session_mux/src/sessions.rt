@@ -18,7 +18,7 @@ use std::marker::Model;
 pub const NUMBERS: usize = 256;
 
 /// The form of an input.
-#[derive(Clone, Copy, Debug, PartialEq, Eq)]
+#[derive(Clone, Copy, PartialEq, Eq)]
 pub enum Form {
     /// All bytes are those of session 0, which is an administrator's.
     Plain,
@@ -27,7 +27,7 @@ pub enum Form {
 }
 
 /// Whether a session number was opened in a trace, and whether it was closed since.
-#[derive(Clone, Copy, Debug, PartialEq, Eq)]
+#[derive(Clone, Copy, PartialEq, Eq)]
 pub enum Stage {
     Unopened,
     Opened,
@@ -35,7 +35,7 @@ pub enum Stage {
 }
 
 /// Where a session number stands.
-#[derive(Debug, Drop)]
+#[derive(Drop)]
 pub enum Session {
     /// It was not opened.
     Unopened,

@@ -17,7 +17,7 @@ use std::marker::Model;
 /// The session of each number.
 ///
 /// At most one of them has a frame or a fault that was not told yet. Contracts see the list.
-#[derive(Debug, Drop)]
+#[derive(Drop)]
 pub struct SessionTable {
     all: Vec<Session>,
     ready: u8,

@@ -27,7 +27,7 @@ const SERIAL_KEY: [u8; 1] = [17];
 
 /// How far a shipping has come: the place of the next gate, the serial of the rows before it, and how many frames were said, as far as four
 /// bytes go.
-#[derive(Clone, Copy, Debug, PartialEq, Eq)]
+#[derive(Clone, Copy, PartialEq, Eq)]
 pub(crate) struct Way {
     pub at: u64,
     pub serial: u64,

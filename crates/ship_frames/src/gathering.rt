@@ -8,7 +8,7 @@ use std::alloc::{AllocError, Global};
 use std::marker::Model;
 
 // A batch of which some pieces came.
-#[derive(Debug, Drop)]
+#[derive(Drop)]
 struct Held {
     sort: Sort,
     serial: u64,
@@ -28,7 +28,7 @@ impl Model for Held {
 }
 
 /// What came of a piece.
-#[derive(Debug, Drop)]
+#[derive(Drop)]
 pub enum Gathered {
     /// It goes on with no batch in parts, and was passed over.
     Skipped,
@@ -40,7 +40,7 @@ pub enum Gathered {
 
 /// The pieces of at most one batch, as they come in order: of a batch of which pieces are wanting it holds those that came, and else nothing.
 /// Contracts see the batch in parts, if there is one (`GatheredPieces`).
-#[derive(Debug, Drop)]
+#[derive(Drop)]
 pub struct Gathering {
     parts: Option<Held>,
 }

@@ -12,7 +12,7 @@ use std::marker::Model;
 /// A piece of a batch, as a frame carries it: it has one of the numbers of its batch, and the size of that number. `piece_in` makes it.
 ///
 /// Contracts see it as a piece of a batch (`PieceReading`).
-#[derive(Debug, Drop)]
+#[derive(Drop)]
 pub struct Piece<'a> {
     pub(crate) sort: Sort,
     pub(crate) serial: u64,

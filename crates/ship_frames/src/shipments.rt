@@ -1,7 +1,7 @@
 use ctrl_model::Bytes;
 
 /// To which rows a batch is applied.
-#[derive(Clone, Copy, Debug, PartialEq, Eq)]
+#[derive(Clone, Copy, PartialEq, Eq)]
 pub enum Sort {
     /// To no rows: the batch has all of them.
     Whole,
@@ -10,7 +10,7 @@ pub enum Sort {
 }
 
 /// A batch as it is shipped: its sort, the serial of the rows after it, and its bytes.
-#[derive(Debug, Drop)]
+#[derive(Drop)]
 pub struct Shipment {
     pub sort: Sort,
     pub serial: u64,

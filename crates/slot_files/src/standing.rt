@@ -11,7 +11,7 @@ use journal_core::{HEADER_LEN, header};
 use ziti_outside::{Desk, Failed, Part};
 
 /// The slot that stands.
-#[derive(Clone, Copy, Debug, PartialEq, Eq)]
+#[derive(Clone, Copy, PartialEq, Eq)]
 pub struct Standing {
     /// The slot.
     pub part: Part,

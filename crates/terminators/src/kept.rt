@@ -6,7 +6,7 @@ use crate::offers::Term;
 use std::alloc::AllocError;
 
 /// A terminator as it is kept, with the number of circuits that are open at it.
-#[derive(Debug, Drop)]
+#[derive(Drop)]
 pub struct KeptTerm {
     pub term: Term,
     pub load: u32,

@@ -8,7 +8,7 @@ use std::marker::Model;
 
 /// Where a service is offered: on which router, under which instance, and by which host if by one (docs/RULES.md,
 /// "Terminators"). Contracts see it as a terminator of the controller's state.
-#[derive(Debug, Drop)]
+#[derive(Drop)]
 pub struct Term {
     pub service: ServiceNo,
     pub router: RouterNo,
@@ -40,7 +40,7 @@ impl Clone for Term {
 
 /// A terminator as it will be: its instance is lent, the rest are values (`Term`). Contracts see it as a terminator of the
 /// controller's state.
-#[derive(Debug, Drop)]
+#[derive(Drop)]
 pub struct TermView<'a> {
     pub service: ServiceNo,
     pub router: RouterNo,

@@ -5,7 +5,7 @@ use channel_frame::{Frame, FrameFault, Front, front_of};
 use std::alloc::{AllocError, Global};
 
 /// What stands at the front of tagged replies.
-#[derive(Debug, Drop)]
+#[derive(Drop)]
 pub enum ReplyFront {
     /// Less than a reply.
     Unfinished,

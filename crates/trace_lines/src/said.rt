@@ -7,7 +7,7 @@ use frame_lines::{Line, LineCause, line_words};
 use std::alloc::{AllocError, Global};
 
 /// What a line of a trace says of its session.
-#[derive(Debug, Drop)]
+#[derive(Drop)]
 pub enum Said {
     /// It is opened by someone.
     Opens(Who),
@@ -18,14 +18,14 @@ pub enum Said {
 }
 
 /// A line of a trace: the number of a session, and what is said of it.
-#[derive(Debug, Drop)]
+#[derive(Drop)]
 pub struct TraceLine {
     pub session: u8,
     pub said: Said,
 }
 
 /// Why a line of a trace is at fault.
-#[derive(Clone, Copy, Debug, PartialEq, Eq)]
+#[derive(Clone, Copy, PartialEq, Eq)]
 pub enum TraceCause {
     /// The first word is no number from 0 to 255 without zeros before it.
     BadSession,
@@ -40,7 +40,7 @@ pub enum TraceCause {
 }
 
 /// The first line of a text that is at fault: its number, from 1, and why.
-#[derive(Clone, Copy, Debug, PartialEq, Eq)]
+#[derive(Clone, Copy, PartialEq, Eq)]
 pub struct TraceFault {
     pub line: u64,
     pub cause: TraceCause,

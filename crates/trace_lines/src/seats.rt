@@ -8,7 +8,7 @@ use std::marker::Model;
 const NUMBERS: usize = 256;
 
 /// Where a session stands in a trace that is written.
-#[derive(Clone, Copy, Debug, PartialEq, Eq)]
+#[derive(Clone, Copy, PartialEq, Eq)]
 pub enum Seat {
     /// It was not opened.
     Unopened,
@@ -19,7 +19,7 @@ pub enum Seat {
 }
 
 /// Where each session number stands. Contracts see the list.
-#[derive(Debug, Drop)]
+#[derive(Drop)]
 pub struct Seats {
     all: Vec<Seat>,
 }

@@ -10,7 +10,7 @@ use frame_lines::cut_line;
 use std::alloc::{AllocError, Global};
 
 /// The trace of a text's lines, and the first line that is at fault. Then the trace is that of the lines before it.
-#[derive(Debug, Drop)]
+#[derive(Drop)]
 pub struct Traced {
     pub bytes: Bytes,
     pub fault: Option<TraceFault>,

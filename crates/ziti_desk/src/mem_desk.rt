@@ -10,7 +10,7 @@ use std::alloc::{AllocError, Global};
 use ziti_outside::{Desk, Failed, Part};
 
 /// How much a desk over memory holds, in bytes.
-#[derive(Clone, Copy, Debug, PartialEq, Eq)]
+#[derive(Clone, Copy, PartialEq, Eq)]
 pub struct Room {
     /// Of each part.
     pub file_bytes: u64,

@@ -5,7 +5,7 @@ ghost use Rattle.zitiline.specs.Words.{asked_of};
 use live_lines::Kind;
 
 /// What the program is asked for.
-#[derive(Clone, Copy, Debug, PartialEq, Eq)]
+#[derive(Clone, Copy, PartialEq, Eq)]
 pub enum Asked {
     /// What is to be said of the input.
     Turn(Form),
@@ -14,7 +14,7 @@ pub enum Asked {
 }
 
 /// What is to be said of an input, and when.
-#[derive(Clone, Copy, Debug, PartialEq, Eq)]
+#[derive(Clone, Copy, PartialEq, Eq)]
 pub enum Form {
     /// Once the input was read to its end.
     Whole(Whole),
@@ -23,7 +23,7 @@ pub enum Form {
 }
 
 /// What is to be said of an input that is read whole.
-#[derive(Clone, Copy, Debug, PartialEq, Eq)]
+#[derive(Clone, Copy, PartialEq, Eq)]
 pub enum Whole {
     /// Lines to frames.
     Encode,
@@ -36,7 +36,7 @@ pub enum Whole {
 }
 
 /// A page about the program.
-#[derive(Clone, Copy, Debug, PartialEq, Eq)]
+#[derive(Clone, Copy, PartialEq, Eq)]
 pub enum Page {
     /// A line for each word.
     Help,

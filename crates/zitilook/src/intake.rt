@@ -9,7 +9,7 @@ use ziti_outside::{Failed, Source};
 const PIECE: usize = 65_536;
 
 /// Why the input was not taken to its end.
-#[derive(Clone, Copy, Debug)]
+#[derive(Clone, Copy)]
 pub enum Cut {
     /// There is no memory.
     NoMemory,

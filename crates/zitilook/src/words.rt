@@ -6,7 +6,7 @@ use ctrl_model::{Kind, Name};
 use record_lines::Listed;
 
 /// What the program is asked for.
-#[derive(Clone, Copy, Debug, PartialEq, Eq)]
+#[derive(Clone, Copy, PartialEq, Eq)]
 pub enum Asked {
     /// The lines of the records of a kind, or of the intercepts.
     List(Listed),
@@ -33,14 +33,14 @@ pub enum Asked {
 }
 
 /// The place of a word behind the program's name.
-#[derive(Clone, Copy, Debug, PartialEq, Eq)]
+#[derive(Clone, Copy, PartialEq, Eq)]
 pub enum Place {
     Second,
     Third,
 }
 
 /// A page about the program.
-#[derive(Clone, Copy, Debug, PartialEq, Eq)]
+#[derive(Clone, Copy, PartialEq, Eq)]
 pub enum Page {
     /// A line for each word.
     Help,
