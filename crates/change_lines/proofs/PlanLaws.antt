@@ -2,14 +2,12 @@
 use Rattle.std.proofs.Common.{◌≡◌, ◌↔◌, ℕ, suc, ◌==◌, not, Bool, false, IsTrue, List, [], ◌∷◌, ◌++◌, length, refl, sym, ◌∙◌, ap, subst, arith}
 use Rattle.std.proofs.lemmas.Bool.Decides.{nat_tests}
 use Rattle.ctrl_model.specs.State.{State}
-use Rattle.ctrl_model.specs.ValidState.{ValidState}
 use Rattle.frame_lines.specs.TextLines.{lines_of}
 use Rattle.change_plans.specs.PlannedLines.{RefusedLine, planned, refused_lines}
 use Rattle.change_lines.specs.declared.planning.Plan.{Plan}
 use Rattle.change_lines.specs.ChangeLines.{change_lines}
 use Rattle.change_lines.specs.PlanParts.{Joins}
 use Rattle.change_lines.specs.PlanTexts.{IsPlan}
-use Rattle.change_lines.proofs.EqualStates.{nothing_said, same_from_nothing}
 
 -- whether a text is empty, as the code asks
 pub some_text : (text : List ℕ) (empty : Bool) → empty ≡ (length text == 0) → IsTrue (not empty) ↔ (text ≡ [] → ⊥)
@@ -25,14 +23,10 @@ none_refused : (refused : List RefusedLine) → refused_lines refused ≡ [] →
 none_refused [] e = refl
 none_refused (r ∷ rs) e = absurd cc
 
-pub is_plan : (s : State) (text out : List ℕ) (p : Plan) → ValidState s → ValidState (planned (lines_of text) s).0 → out ≡ refused_lines (planned (lines_of text) s).1
-    → Joins (change_lines s (planned (lines_of text) s).0) out p → IsPlan s text p
-is_plan s text out p v w is joins = record {
+pub is_plan : (s : State) (text out : List ℕ) (p : Plan) → out ≡ refused_lines (planned (lines_of text) s).1 → Joins (change_lines s (planned (lines_of text) s).0) out p
+    → IsPlan s text p
+is_plan s text out p is joins = record {
   told = joins.told ∙ ap (λ (o : List ℕ). change_lines s t ++ o) is;
-  changes = (
-    λ told same. joins.changes.0 told (sym (ap (change_lines s) same) ∙ nothing_said s),
-    λ other. joins.changes.1 (λ none. other (same_from_nothing s t v w none)),
-  );
   refuses = (
     λ told none. joins.refuses.0 told (is ∙ ap refused_lines none),
     λ some. joins.refuses.1 (λ none. some (none_refused refused (sym is ∙ none))),

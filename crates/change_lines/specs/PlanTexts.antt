@@ -11,9 +11,7 @@ use Rattle.change_lines.specs.ChangeLines.{change_lines}
 abbrev pub plan_text : State → List ℕ → List ℕ
 plan_text s text = change_lines s (planned (lines_of text) s).0 ++ refused_lines (planned (lines_of text) s).1
 
--- A plan of a text in a state: what is told, whether the state behind the commands is another one, and whether one of
--- them is refused.
+-- A plan of a text in a state: what is told, and whether one of the commands is refused.
 pub record IsPlan (s : State) (text : List ℕ) (p : Plan) : Type 0 where
   pub told : p.text ≡ plan_text s text
-  pub changes : IsTrue p.changes ↔ (s ≡ (planned (lines_of text) s).0 → ⊥)
   pub refuses : IsTrue p.refuses ↔ ((planned (lines_of text) s).1 ≡ [] → ⊥)

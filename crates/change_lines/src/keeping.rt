@@ -13,7 +13,7 @@ use ctrl_model::{Bytes, Format};
 use row_codec::{Batch, Op, Row};
 use row_loading::{CoreFault, read_rows};
 use row_writing::write_row;
-use slot_reading::{Rows, change_all};
+use slot_reading::{Rows, change_all, puts};
 use std::alloc::{AllocError, Global};
 use std::collections::BTreeMap;
 
@@ -50,32 +50,12 @@ pub(crate) fn kept_rows(alloc: Global, rows: &[Row]) -> Result<Rows, AllocError>
     Ok(kept)
 }
 
-// The change that puts a value under a key.
-fn put_at(alloc: Global, key: &[u8], value: &[u8]) -> Result<Op, AllocError>
-    ensures { IfOk result (λ op. op ≡ Op.Put key.now value.now) }
-{
-    let key = Bytes::from_slice(alloc, key)?;
-    let value = Bytes::from_slice(alloc, value)?;
-    Ok(Op::Put { key, value })
-}
-
-// The changes that put rows which are kept.
-fn puts_in(alloc: Global, kept: &Rows) -> Result<Batch, AllocError>
-    ensures { IfOk result (λ batch. batch ≡ puts (rows_in kept.now.entries)) }
-{
-    let mut items = Vec::new(alloc);
-    'rows: for (key, value) in kept {
-        items.push(put_at(alloc, key.as_slice(), value.as_slice())?)?;
-    }
-    Ok(Batch::of(items))
-}
-
 /// The rows of a state that are kept, as they are read.
 pub(crate) fn rows_kept(alloc: Global, kept: &Rows) -> Result<Vec<Row>, AllocError>
     requires { (s : State) × AreKeptOf s (rows_in kept.now.entries) }
     ensures { IfOk result (λ rows. (s : State) → AreKeptOf s (rows_in kept.now.entries) → AreRowsOf Two s rows.items) }
 {
-    let batch = puts_in(alloc, kept)?;
+    let batch = puts(alloc, kept)?;
     match read_rows(alloc, Format::Two, batch.as_slice()) {
         Ok(rows) => Ok(rows),
         Err(CoreFault::NotAState { .. }) => unreachable!(),

@@ -26,8 +26,6 @@ use std::alloc::{AllocError, Global};
 pub struct Plan {
     /// The lines of the changes, and behind them a line for each command that is refused.
     pub text: Bytes,
-    /// Whether the state behind the commands is another one.
-    pub changes: bool,
     /// Whether a command is refused.
     pub refuses: bool,
 }
@@ -40,7 +38,6 @@ fn joined(alloc: Global, lines: &[u8], refused: &[u8]) -> Result<Plan, AllocErro
     text.extend_from_slice(refused)?;
     Ok(Plan {
         text: Bytes::of(text),
-        changes: !lines.is_empty(),
         refuses: !refused.is_empty(),
     })
 }

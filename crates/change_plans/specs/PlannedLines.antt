@@ -5,7 +5,7 @@ use Rattle.std.specs.List.{flat_map}
 use Rattle.ctrl_model.specs.declared.commands.Command.{Command}
 use Rattle.ctrl_model.specs.declared.kinds.Who.TheVariants.{Admin}
 use Rattle.ctrl_model.specs.declared.refusals.Refusal.{Refusal}
-use Rattle.ctrl_model.specs.declared.refusals.Refusal.TheVariants.{BadBody, JournalFull, UnsupportedType}
+use Rattle.ctrl_model.specs.declared.refusals.Refusal.TheVariants.{JournalFull}
 use Rattle.ctrl_model.specs.declared.replies.Reply.{Reply}
 use Rattle.ctrl_model.specs.declared.replies.Reply.TheVariants.{Refused}
 use Rattle.ctrl_model.specs.Controller.{answer, numbered}
@@ -13,8 +13,7 @@ use Rattle.ctrl_model.specs.Limits.{last_serial}
 use Rattle.ctrl_model.specs.SameStates.{same_state}
 use Rattle.ctrl_model.specs.State.{State}
 use Rattle.command_codec.specs.declared.reading.CodecFault.{CodecFault}
-use Rattle.command_codec.specs.declared.reading.CodecFault.TheVariants as cause
-use Rattle.command_codec.specs.BodyMeaning.{meaning}
+use Rattle.command_codec.specs.BodyMeaning.{meaning, refusal_for}
 use Rattle.frame_lines.specs.declared.lines.Line.{Line}
 use Rattle.frame_lines.specs.declared.lines.LineCause.{LineCause}
 use Rattle.frame_lines.specs.TextLines.{passes}
@@ -26,12 +25,6 @@ use Rattle.reply_codec.specs.ReplyBody.{reply_body}
 -- An answer whose state is counted, within the serials that there are: at the last one a change is refused.
 abbrev pub within_serials : State → Reply × State → Reply × State
 within_serials s a = cond (not (same_state s a.1) && (s.serial == last_serial)) (Refused JournalFull, s) a
-
--- The refusal that tells why a line spells no command. No line is in want of memory.
-abbrev pub refusal_for : CodecFault → Refusal
-refusal_for cause.UnsupportedType = UnsupportedType
-refusal_for (cause.BadBody field reason) = BadBody field reason
-refusal_for cause.NoMemory = UnsupportedType
 
 -- The answer of the controller to what a line spells: an administrator's command is answered, and its change counted
 -- as a folder counts it; what spells no command is refused, and leaves the state.

@@ -8,7 +8,6 @@ ghost use Rattle.ctrl_core.specs.Changes.{CanLead, led};
 ghost use Rattle.change_plans.specs.PlannedLines.{line_answer, within_serials};
 ghost use Rattle.change_plans.specs.PlanTurns.{GoesWith};
 
-use crate::refusing::refusal_of;
 use command_codec::read;
 use ctrl_core::{Core, Planned};
 use ctrl_model::{Command, LAST_SERIAL, Refusal, Reply};
@@ -78,6 +77,6 @@ pub(crate) fn answer_line(
             drop(command);
             answered
         }
-        Err(fault) => Ok(Reply::Refused(refusal_of(fault)?)),
+        Err(fault) => Ok(Reply::Refused(fault.refusal()?)),
     }
 }

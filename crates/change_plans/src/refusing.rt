@@ -1,24 +1,12 @@
-ghost use Rattle.std.specs.Prelude.{◌≡◌, ◌≢◌, ◌++◌, IfOk, OnOk};
+ghost use Rattle.std.specs.Prelude.{◌≡◌, ◌++◌, OnOk};
 ghost use Rattle.ctrl_model.specs.declared.replies.Reply.TheVariants.{Refused};
 ghost use Rattle.reply_codec.specs.ReplyBody.{reply_body};
-ghost use Rattle.change_plans.specs.PlannedLines.{refusal_for, refused_with};
+ghost use Rattle.change_plans.specs.PlannedLines.{refused_with};
 ghost use Rattle.change_plans.specs.PlanTurns.{refusal_told};
 
-use command_codec::CodecFault;
-use ctrl_model::{Refusal, Reply};
+use ctrl_model::Reply;
 use reply_codec::write;
 use std::alloc::{AllocError, Global};
-
-/// The refusal that tells why a line spells no command.
-pub(crate) fn refusal_of(fault: CodecFault) -> Result<Refusal, AllocError>
-    ensures { IfOk result (λ r. (fault ≢ CodecFault.NoMemory) × (r ≡ refusal_for fault)) }
-{
-    match fault {
-        CodecFault::UnsupportedType => Ok(Refusal::UnsupportedType),
-        CodecFault::BadBody { field, reason } => Ok(Refusal::BadBody { field, reason }),
-        CodecFault::NoMemory => Err(AllocError),
-    }
-}
 
 // Puts a line down: `refused`, a number and a text.
 fn put_refused(alloc: Global, out: &mut Vec<u8>, number: u64, body: &[u8]) -> Result<(), AllocError>

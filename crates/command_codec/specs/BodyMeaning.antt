@@ -7,11 +7,14 @@ use Rattle.serde_json.specs.Data.{Data}
 use Rattle.ctrl_model.specs.declared.commands.Command.{Command}
 use Rattle.ctrl_model.specs.declared.commands.Command.TheVariants as command
 use Rattle.ctrl_model.specs.declared.refusals.Field.{Field}
+use Rattle.ctrl_model.specs.declared.refusals.Refusal.{Refusal}
+use Rattle.ctrl_model.specs.declared.refusals.Refusal.TheVariants as refusal
 use Rattle.json_body.specs.declared.fields.FieldFault.{FieldFault}
 use Rattle.json_body.specs.declared.fields.FieldFault.TheVariants.{Unknown}
 use Rattle.json_body.specs.FieldKinds.{required, optional, finished}
 use Rattle.ctrl_model.specs.declared.value_kinds.ValueKind.{ValueKind}
 use Rattle.command_codec.specs.declared.reading.CodecFault.{CodecFault}
+use Rattle.command_codec.specs.declared.reading.CodecFault.TheVariants as cause
 use Rattle.command_codec.specs.declared.reading.CodecFault.TheVariants.{UnsupportedType}
 use Rattle.ctrl_model.specs.ValueKinds.{Said}
 use Rattle.command_codec.specs.BodyKinds.{as_kind}
@@ -49,6 +52,12 @@ meaning_under (Some r) body = said_by (said_in r) (object_of_body body)
 -- The command that a body spells under a content type, or the first cause why it spells none. The body of Hello is not read.
 abbrev pub meaning : ℕ → List ℕ → Result Command CodecFault
 meaning content body = if content == 0 then Ok command.Hello else meaning_under (row_at content) body
+
+-- The refusal that tells why a body spells no command. No body is in want of memory.
+abbrev pub refusal_for : CodecFault → Refusal
+refusal_for cause.UnsupportedType = refusal.UnsupportedType
+refusal_for (cause.BadBody field reason) = refusal.BadBody field reason
+refusal_for cause.NoMemory = refusal.UnsupportedType
 
 -- What an object says under a row; where there is none, it has no key that is known.
 abbrev pub said_under : Option Row → Data → Result Command FieldFault

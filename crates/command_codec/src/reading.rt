@@ -1,9 +1,9 @@
-ghost use Rattle.std.specs.Prelude.{◌≡◌, ◌≢◌, ◌↔◌, ◌<◌, IfOk, IfErr, IsOk, IsErrOf, length, true, false, Some, Ok, Err, option_map};
+ghost use Rattle.std.specs.Prelude.{◌≡◌, ◌≢◌, ◌↔◌, ◌<◌, IfOk, IfErr, IsOk, IsErrOf, OnErr, length, true, false, Some, Ok, Err, option_map};
 ghost use Rattle.serde_json.specs.View.{view};
 ghost use Rattle.ctrl_model.specs.SpelledCommands.{is_spelled};
 ghost use Rattle.json_body.specs.FieldKinds.{object_of};
 ghost use Rattle.body_fields.specs.ReadResults.{Gives};
-ghost use Rattle.command_codec.specs.BodyMeaning.{meaning, said_under, value_meaning};
+ghost use Rattle.command_codec.specs.BodyMeaning.{meaning, refusal_for, said_under, value_meaning};
 ghost use Rattle.ctrl_model.specs.CommandForms.{row_at};
 ghost use Rattle.command_codec.specs.FormRules.{form_asks, row_asks};
 
@@ -11,10 +11,10 @@ use crate::body_forms::{BodyForm, form_of};
 use crate::command_values::command_of;
 use crate::content_types::HELLO;
 use body_fields::{keep_rules, value_in};
-use ctrl_model::{Command, Field, Reason};
+use ctrl_model::{Command, Field, Reason, Refusal};
 use json_body::{FieldFault, Fields};
 use serde_json::Value;
-use std::alloc::Global;
+use std::alloc::{AllocError, Global};
 use thiserror::Error;
 
 /// Why a frame's type and body spell no command.
@@ -29,6 +29,20 @@ pub enum CodecFault {
     /// There is no memory for the command.
     #[error("no memory")]
     NoMemory,
+}
+
+impl CodecFault {
+    /// The refusal that tells it (docs/FORMATS.md, "Refusals"), unless it is want of memory.
+    pub fn refusal(self) -> Result<Refusal, AllocError>
+        ensures ok { IfOk result (λ r. (self ≢ CodecFault.NoMemory) × (r ≡ refusal_for self)) }
+        ensures err { OnErr result (self ≡ CodecFault.NoMemory) }
+    {
+        match self {
+            CodecFault::UnsupportedType => Ok(Refusal::UnsupportedType),
+            CodecFault::BadBody { field, reason } => Ok(Refusal::BadBody { field, reason }),
+            CodecFault::NoMemory => Err(AllocError),
+        }
+    }
 }
 
 impl From<FieldFault> for CodecFault {

@@ -7,8 +7,6 @@ use Rattle.channel_frame.specs.declared.frames.Frame.{Frame}
 use Rattle.channel_frame.specs.FrameSpelling.{spelling}
 use Rattle.ctrl_model.specs.declared.commands.Command.{Command}
 use Rattle.ctrl_model.specs.declared.kinds.Who.{Who}
-use Rattle.ctrl_model.specs.declared.refusals.Refusal.{Refusal}
-use Rattle.ctrl_model.specs.declared.refusals.Refusal.TheVariants.{UnsupportedType, BadBody}
 use Rattle.ctrl_model.specs.declared.replies.Reply.{Reply}
 use Rattle.ctrl_model.specs.declared.replies.Reply.TheVariants.{Refused}
 use Rattle.ctrl_model.specs.State.{State}
@@ -23,14 +21,7 @@ use Rattle.session_mux.specs.declared.events.Event.{Event}
 use Rattle.session_mux.specs.declared.sessions.Form.{Form}
 use Rattle.session_mux.specs.Completion.{completed}
 use Rattle.command_codec.specs.declared.reading.CodecFault.{CodecFault}
-use Rattle.command_codec.specs.declared.reading.CodecFault.TheVariants as cause
-use Rattle.command_codec.specs.BodyMeaning.{meaning}
-
--- The refusal that tells why a frame spells no command. No frame is in want of memory.
-abbrev pub refusal_for : CodecFault → Refusal
-refusal_for cause.UnsupportedType = UnsupportedType
-refusal_for (cause.BadBody field reason) = BadBody field reason
-refusal_for cause.NoMemory = UnsupportedType
+use Rattle.command_codec.specs.BodyMeaning.{meaning, refusal_for}
 
 -- The answer to what a frame spells, within the bounds of a folder: the machine's step on a command, and else the refusal, which leaves
 -- the machine.

@@ -7,7 +7,7 @@ ghost use Rattle.ctrl_keep.specs.KeptMachine.{step};
 ghost use Rattle.ctrl_model.specs.SpelledCommands.{is_spelled};
 ghost use Rattle.ctrl_model.specs.Controller.{answer, carry};
 ghost use Rattle.journal_core.specs.Room.{HoldsRoom};
-ghost use Rattle.ctrl_serve.specs.FrameAnswer.{alone, frame_answer, no_bounds, refusal_for};
+ghost use Rattle.ctrl_serve.specs.FrameAnswer.{alone, frame_answer, no_bounds};
 ghost use Rattle.reply_codec.specs.ReplyLimits.{keeps_limits};
 ghost use Rattle.serve_loop.specs.Turns.{unkept};
 ghost use Rattle.ziti_outside.specs.Causes.{HasCause};
@@ -16,7 +16,7 @@ ghost use Rattle.ziti_outside.specs.Untouched.{OnlyDisk};
 
 use access_rules::permitted;
 use channel_frame::Frame;
-use command_codec::{CodecFault, read};
+use command_codec::read;
 use ctrl_core::Core;
 use ctrl_keep::{KeepFault, Kept};
 use ctrl_model::{Command, Refusal, Reply, Who};
@@ -68,16 +68,6 @@ pub(crate) fn carry_alone(
     }
 }
 
-fn refusal_of(fault: CodecFault) -> Result<Refusal, AllocError>
-    ensures { IfOk result (λ r. (fault ≢ CodecFault.NoMemory) × (r ≡ refusal_for fault)) }
-{
-    match fault {
-        CodecFault::UnsupportedType => Ok(Refusal::UnsupportedType),
-        CodecFault::BadBody { field, reason } => Ok(Refusal::BadBody { field, reason }),
-        CodecFault::NoMemory => Err(AllocError),
-    }
-}
-
 /// Answers a frame of a sender without a folder: the command that it spells is carried out, and what spells none is refused.
 pub(crate) fn answer_alone(
     alloc: Global,
@@ -96,7 +86,7 @@ pub(crate) fn answer_alone(
             drop(command);
             answered
         }
-        Err(fault) => Ok(Reply::Refused(refusal_of(fault)?)),
+        Err(fault) => Ok(Reply::Refused(fault.refusal()?)),
     }
 }
 
@@ -173,7 +163,7 @@ fn answer_kept<D: Desk>(
             drop(command);
             answered
         }
-        Err(fault) => Ok(Reply::Refused(refusal_of(fault)?)),
+        Err(fault) => Ok(Reply::Refused(fault.refusal()?)),
     }
 }
 

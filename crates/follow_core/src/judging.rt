@@ -10,10 +10,10 @@ ghost use Rattle.follow_core.specs.Following.{is_whole_of};
 ghost use Rattle.follow_core.specs.Steps.{AreOfSerial};
 
 use ctrl_core::{Core, CoreFault};
-use ctrl_model::{Bytes, Format};
+use ctrl_model::Format;
 use row_codec::{Batch, Op};
 use row_store::Store;
-use slot_reading::{Rows, change_all, serial_in};
+use slot_reading::{Rows, change_all, puts, serial_in};
 use std::alloc::{AllocError, Global};
 
 /// The key of the serial.
@@ -110,25 +110,6 @@ pub(crate) fn is_true_difference(store: &Store, ops: &[Op]) -> bool
     ensures { result ≡ is_true_difference store.now.rows ops.now }
 {
     !ops.is_empty() && all_change(store, ops)
-}
-
-fn put_of(alloc: Global, key: &[u8], value: &[u8]) -> Result<Op, AllocError>
-    ensures { IfOk result (λ op. op ≡ Op.Put key.now value.now) }
-{
-    let key = Bytes::from_slice(alloc, key)?;
-    let value = Bytes::from_slice(alloc, value)?;
-    Ok(Op::Put { key, value })
-}
-
-// Rows as puts.
-fn puts(alloc: Global, rows: &Rows) -> Result<Batch, AllocError>
-    ensures { IfOk result (λ batch. batch ≡ puts (rows_in rows.now.entries)) }
-{
-    let mut items = Vec::new(alloc);
-    'rows: for (key, value) in rows {
-        items.push(put_of(alloc, key.as_slice(), value.as_slice())?)?;
-    }
-    Ok(Batch::of(items))
 }
 
 /// The rows of a store after operations, as puts.

@@ -3,9 +3,11 @@
 #![tactic(auto)]
 
 mod changing;
+mod putting;
 mod reading;
 mod serials;
 
 pub use changing::{Rows, change_all};
+pub use putting::puts;
 pub use reading::{batch_behind, read_slot};
 pub use serials::serial_in;

@@ -5,6 +5,5 @@ use Rattle.change_lines.proofs.planning.joined.Goals as goal
 pub returns : goal.returns
 returns c = record {
   told = c.of.ensures ∙ c.in_ok-extend_from_slice.ensures.items ∙ ap (λ (text : List ℕ). text ++ c.args.refused.now) c.in_ok-text.ensures.items;
-  changes = some_text c.args.lines.now c.is_empty.result c.is_empty.ensures;
-  refuses = some_text c.args.refused.now c.is_empty-2.result c.is_empty-2.ensures;
+  refuses = some_text c.args.refused.now c.is_empty.result c.is_empty.ensures;
 }
