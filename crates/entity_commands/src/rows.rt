@@ -1,6 +1,7 @@
 ghost use Rattle.std.specs.Prelude.{◌≡◌, ◌∷◌, [], true, IfOk, IfSome, OnOk};
 ghost use Rattle.std.specs.Option.{option_map};
 ghost use Rattle.ctrl_model.specs.declared.formats.Format.{Format};
+ghost use Rattle.ctrl_model.specs.declared.formats.Format.TheVariants.{Two};
 ghost use Rattle.ctrl_model.specs.Numbered.{at};
 ghost use Rattle.ctrl_model.specs.State.{State};
 ghost use Rattle.entity_store.specs.EntityChanges.{after_entity_change};
@@ -8,6 +9,8 @@ ghost use Rattle.entity_store.specs.EntityTables as entity_tables;
 ghost use Rattle.entity_store.specs.EntityTables.{is_entity_kind};
 ghost use Rattle.record_tables.specs.AfterChange.{changed_by};
 ghost use Rattle.row_codec.specs.CoveredTables.{Covers};
+ghost use Rattle.row_codec.specs.RowForm.{is_row};
+ghost use Rattle.row_codec.specs.RowForm as row_form;
 ghost use Rattle.row_codec.specs.RowKeys.{is_long};
 ghost use Rattle.row_codec.specs.RowValues.{entity_value, router_value};
 ghost use Rattle.row_laws.specs.FittingRecords.{fits};
@@ -21,6 +24,16 @@ use row_codec::{Change, Changes, Row};
 use row_writing::{change_of, value_of};
 use std::alloc::{AllocError, Global};
 
+// The value of a row.
+fn value_in(alloc: Global, row: Row) -> Result<Bytes, AllocError>
+    requires { is_row Two row ≡ true }
+    ensures { IfOk result (λ value. value ≡ row_form.value_of Two row) }
+{
+    let value = value_of(alloc, Format::Two, &row);
+    drop(row);
+    value
+}
+
 // The value of the row of an identity or a service under a number: those of both kinds are spelled alike.
 fn plain_value(alloc: Global, number: u32, entity: EntityView) -> Result<Bytes, AllocError>
     requires { fits Kind.Identity entity ≡ true }
@@ -33,7 +46,7 @@ fn plain_value(alloc: Global, number: u32, entity: EntityView) -> Result<Bytes, 
         name,
         attributes,
     };
-    value_of(alloc, Format::Two, &row)
+    value_in(alloc, row)
 }
 
 // The value of the row of an identity or a service, if there is one.
@@ -93,7 +106,7 @@ fn row_value(alloc: Global, no: RouterNo, router: RouterView) -> Result<Bytes, A
         through: router.through,
         connected: router.connected,
     };
-    value_of(alloc, Format::Two, &row)
+    value_in(alloc, row)
 }
 
 // The value of the row of a router under a number, if there is one.

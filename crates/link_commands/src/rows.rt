@@ -59,8 +59,13 @@ impl<'a> ChangedRows for LinkRows<'a> {
     fn rows_at(&self, number: u32) -> Result<(Option<Row>, Option<Row>), AllocError> {
         let no = LinkNo(number);
         let before = row_of(no, self.fabric.seen(no))?;
-        let after = row_of(no, self.after.link(no))?;
-        Ok((before, after))
+        match row_of(no, self.after.link(no)) {
+            Ok(after) => Ok((before, after)),
+            Err(fault) => {
+                drop(before);
+                Err(fault)
+            }
+        }
     }
 }
 
