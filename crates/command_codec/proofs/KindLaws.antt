@@ -1,21 +1,16 @@
 -- What values say keeps the kinds, the ranges and the lengths of fields, and the commands that are made of such values are those
 -- which some body spells.
-use Rattle.std.proofs.Common.{◌≡◌, ℕ, ◌==◌, nat_le, Bool, true, false, cond, ◌&&◌, ◌||◌, List, [], ◌∷◌, ◌++◌, length, codes, bytes_eq, Option, Some, None, refl, sym, ap, subst, eqb-true, arith, le-leb}
+use Rattle.std.proofs.Common.{◌≡◌, ℕ, ◌==◌, Bool, true, false, cond, List, [], ◌∷◌, ◌++◌, codes, bytes_eq, Option, Some, None, refl, subst, eqb-true}
 use Rattle.std.specs.List.{AllByRecursion, list_all}
 use Rattle.std.proofs.lemmas.Bool.{and_from, and_parts}
 use Rattle.std.proofs.lemmas.Option.{cond_some, option_and_then_some, same_Some}
 use Rattle.serde_json.specs.Data.{Data}
 use Rattle.serde_json.specs.Find.{as_str}
-use Rattle.ctrl_model.specs.declared.commands.Command.TheVariants as command
-use Rattle.ctrl_model.specs.declared.kinds.Kind.TheVariants as kind
 use Rattle.ctrl_model.specs.declared.kinds.Relation.{Relation}
 use Rattle.ctrl_model.specs.declared.kinds.Relation.TheVariants.{Dial, Bind}
-use Rattle.ctrl_model.specs.AddressForm.{is_address, same_address}
-use Rattle.ctrl_model.specs.ValueForms.{in_range, are_attributes, is_side, is_service_relation, is_name_or_none, is_reach, are_numbers, is_destination, is_number}
+use Rattle.ctrl_model.specs.ValueForms.{is_service_relation, is_name_or_none}
 use Rattle.ctrl_model.specs.SpelledCommands.{all_checks, all_hold, is_spelled}
-use Rattle.ctrl_model.specs.InterceptForm.{is_claim, is_port_range, same_ports}
-use Rattle.ctrl_model.specs.Limits.{limit, longest_path, most_number}
-use Rattle.ctrl_model.specs.NameForm.{is_name, is_instance}
+use Rattle.ctrl_model.specs.NameForm.{is_instance}
 use Rattle.json_body.specs.FieldKinds.{as_name}
 use Rattle.body_fields.specs.FieldValues.{instance_of, as_instance, as_some_name}
 use Rattle.body_fields.specs.FieldWords.{relation_of, as_relation}
@@ -28,7 +23,7 @@ use Rattle.ctrl_model.specs.declared.value_kinds.ValueKind.TheVariants as value
 use Rattle.ctrl_model.specs.BodyForms.{Form, Values, ◌&◌, made_of}
 use Rattle.ctrl_model.specs.ValueKinds.{Said, checks}
 use Rattle.command_codec.specs.BodyKinds.{as_kind}
-use Rattle.ctrl_model.specs.CommandForms.{Row, all_rows, claim, row_in, row_at}
+use Rattle.ctrl_model.specs.CommandForms.{Row, all_rows, row_in, row_at}
 use Rattle.ctrl_model.specs.ContentTypes.{content_of}
 use Rattle.command_codec.proofs.NameListLaws.{as_name-form, as_attributes-form}
 use Rattle.command_codec.proofs.SideLaws.{as_side-form}

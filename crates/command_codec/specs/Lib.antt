@@ -6,3 +6,4 @@ pub mod FormRules
 pub mod BodyMeaning
 pub mod SpelledBodies
 pub mod FirstCauses
+pub mod ClaimForm

@@ -4,6 +4,7 @@
 mod attribute_lists;
 mod body_forms;
 mod body_kinds;
+mod command_parts;
 mod command_values;
 mod content_types;
 mod laws;
