@@ -19,3 +19,8 @@ each_passes p xs ys i x same within all = by (p (get_or ys i x)) refl
     by : (b : Bool) → p (get_or ys i x) ≡ b → p (get_or ys i x) ≡ true
     by true e = e
     by false e = absurd (false≢true (sym (list_all_at p ys i x within e) ∙ ap (list_all p) same ∙ all))
+
+-- a list of which nothing is asked
+pub none_asked : {X : Type 0} (xs : List X) → list_all (λ _. true) xs ≡ true
+none_asked [] = refl
+none_asked (x ∷ xs) = none_asked xs

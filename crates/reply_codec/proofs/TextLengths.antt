@@ -58,13 +58,13 @@ items_more later (e ∷ ds) d =
     )
 
 -- the items before the next index, where each has at most n bytes
-pub items_before : {X : Type 0} (f : X → Data) (xs ys : List X) (n k i : ℕ) (x : X) → ys ≡ xs → i < length ys → length (compact_text (f (get_or ys i x))) ≤ n → suc n ≡ k →
+pub items_before : {X : Type 0} (f : X → Data) (xs ys : List X) (n k i : ℕ) (x : X) → ys ≡ xs → i < length ys → length (compact_text (f (get_or ys i x))) ≤ n → 1 + n ≡ k →
     length (items_text false (items_of (map f (take i xs)))) ≤ 1 + k * i → length (items_text false (items_of (map f (take (i + 1) xs)))) ≤ 1 + k * (i + 1)
 items_before f xs ys n k i x same within few e before =
     subst (λ zs. length (items_text false (items_of (map f (take (i + 1) zs)))) ≤ 1 + k * (i + 1)) same
     (one_more f ys n k i x within few e (subst (λ zs. length (items_text false (items_of (map f (take i zs)))) ≤ 1 + k * i) (sym same) before))
   where
-    one_more : {X : Type 0} (f : X → Data) (xs : List X) (n k i : ℕ) (x : X) → i < length xs → length (compact_text (f (get_or xs i x))) ≤ n → suc n ≡ k →
+    one_more : {X : Type 0} (f : X → Data) (xs : List X) (n k i : ℕ) (x : X) → i < length xs → length (compact_text (f (get_or xs i x))) ≤ n → 1 + n ≡ k →
         length (items_text false (items_of (map f (take i xs)))) ≤ 1 + k * i → length (items_text false (items_of (map f (take (i + 1) xs)))) ≤ 1 + k * (i + 1)
     one_more f xs n k i x within few e before =
         let more = items_more false (map f (take i xs)) (f (get_or xs i x)) in

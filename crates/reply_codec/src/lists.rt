@@ -8,8 +8,9 @@ ghost use Rattle.ctrl_model.specs.ValueForms.{is_value};
 ghost use Rattle.reply_codec.specs.ReplyBody.{natural, naturals, strings, tally_array, tally_arrays, cost_or_null, reach_object, reach_objects};
 ghost use Rattle.reply_codec.specs.ReplyLimits.{is_short_reach};
 
+use crate::item_values::{ItemValue, list_value};
 use ctrl_model::{Bytes, Name, Names, Numbers, Potentials, Reach, Reaches, Tallies, Tally};
-use serde_json::{Value, json};
+use serde_json::{Map, Value, put};
 use std::alloc::{AllocError, Global};
 use std::str;
 
@@ -21,16 +22,27 @@ fn number_value(number: u32) -> Value
     Value::from(number)
 }
 
+impl ItemValue for u32 {
+    ghost use Rattle.std.specs.Prelude.{true};
+    ghost use Rattle.reply_codec.specs.ReplyBody.{natural};
+
+    ghost spelled = { natural };
+
+    ghost fits = { λ _. true };
+
+    ghost most = { 10 };
+
+    fn value(&self, _alloc: Global) -> Result<Value, AllocError> {
+        Ok(number_value(*self))
+    }
+}
+
 /// A list of numbers: at most 11 bytes each, and 2. An `Err` is want of memory.
 pub fn numbers_value(alloc: Global, numbers: &Numbers) -> Result<Value, AllocError>
     ensures value { IfOk result (λ v. view v ≡ naturals numbers.now) }
     ensures few { IfOk result (λ _. length (compact_text (naturals numbers.now)) ≤ 2 + 11 * length numbers.now) }
 {
-    let mut values = Vec::new(alloc);
-    'numbers: for number in numbers.as_slice() {
-        values.push(number_value(*number))?;
-    }
-    Ok(Value::Array(values))
+    list_value(alloc, numbers.as_slice())
 }
 
 fn name_text(name: &Name) -> &str
@@ -46,6 +58,21 @@ pub fn name_value(alloc: Global, name: &Name) -> Result<Value, AllocError>
     ensures few { IfOk result (λ _. length (compact_text (string name.now)) ≤ 386) }
 {
     Value::try_from_str(alloc, name_text(name))
+}
+
+impl ItemValue for Name {
+    ghost use Rattle.std.specs.Prelude.{true};
+    ghost use Rattle.serde_json.specs.Data.{string};
+
+    ghost spelled = { string };
+
+    ghost fits = { λ _. true };
+
+    ghost most = { 386 };
+
+    fn value(&self, alloc: Global) -> Result<Value, AllocError> {
+        name_value(alloc, self)
+    }
 }
 
 fn address_text(address: &Bytes) -> &str
@@ -70,20 +97,33 @@ pub(crate) fn names_value(alloc: Global, names: &Names) -> Result<Value, AllocEr
     ensures value { IfOk result (λ v. view v ≡ strings names.now) }
     ensures few { IfOk result (λ _. length (compact_text (strings names.now)) ≤ 2 + 387 * length names.now) }
 {
-    let mut values = Vec::new(alloc);
-    'names: for name in names.as_slice() {
-        values.push(name_value(alloc, name)?)?;
-    }
-    Ok(Value::Array(values))
+    list_value(alloc, names.as_slice())
 }
 
 fn tally_value(alloc: Global, tally: &Tally) -> Result<Value, AllocError>
     ensures value { IfOk result (λ v. view v ≡ tally_array tally.now) }
     ensures few { IfOk result (λ _. length (compact_text (tally_array tally.now)) ≤ 399) }
 {
+    let mut pair = Vec::new(alloc);
     let name = name_value(alloc, &tally.name)?;
-    let count = tally.count;
-    json!(in alloc; [name, count])
+    pair.push(name)?;
+    pair.push(number_value(tally.count))?;
+    Ok(Value::Array(pair))
+}
+
+impl ItemValue for Tally {
+    ghost use Rattle.std.specs.Prelude.{true};
+    ghost use Rattle.reply_codec.specs.ReplyBody.{tally_array};
+
+    ghost spelled = { tally_array };
+
+    ghost fits = { λ _. true };
+
+    ghost most = { 399 };
+
+    fn value(&self, alloc: Global) -> Result<Value, AllocError> {
+        tally_value(alloc, self)
+    }
 }
 
 /// A list of names with their counts: at most 400 bytes each, and 2.
@@ -91,11 +131,7 @@ pub(crate) fn tallies_value(alloc: Global, tallies: &Tallies) -> Result<Value, A
     ensures value { IfOk result (λ v. view v ≡ tally_arrays tallies.now) }
     ensures few { IfOk result (λ _. length (compact_text (tally_arrays tallies.now)) ≤ 2 + 400 * length tallies.now) }
 {
-    let mut values = Vec::new(alloc);
-    'tallies: for tally in tallies.as_slice() {
-        values.push(tally_value(alloc, tally)?)?;
-    }
-    Ok(Value::Array(values))
+    list_value(alloc, tallies.as_slice())
 }
 
 fn cost_value(cost: u64) -> Value
@@ -110,16 +146,27 @@ fn cost_value(cost: u64) -> Value
     }
 }
 
+impl ItemValue for u64 {
+    ghost use Rattle.ctrl_model.specs.ValueForms.{is_value};
+    ghost use Rattle.reply_codec.specs.ReplyBody.{cost_or_null};
+
+    ghost spelled = { cost_or_null };
+
+    ghost fits = { is_value };
+
+    ghost most = { 10 };
+
+    fn value(&self, _alloc: Global) -> Result<Value, AllocError> {
+        Ok(cost_value(*self))
+    }
+}
+
 fn costs_value(alloc: Global, costs: &Potentials) -> Result<Value, AllocError>
     requires { list_all is_value costs.now ≡ true }
     ensures value { IfOk result (λ v. view v ≡ array (items_of (map cost_or_null costs.now))) }
     ensures few { IfOk result (λ _. length (compact_text (array (items_of (map cost_or_null costs.now)))) ≤ 2 + 11 * length costs.now) }
 {
-    let mut values = Vec::new(alloc);
-    'costs: for cost in costs.as_slice() {
-        values.push(cost_value(*cost))?;
-    }
-    Ok(Value::Array(values))
+    list_value(alloc, costs.as_slice())
 }
 
 fn reach_value(alloc: Global, reach: &Reach) -> Result<Value, AllocError>
@@ -128,8 +175,26 @@ fn reach_value(alloc: Global, reach: &Reach) -> Result<Value, AllocError>
     ensures few { IfOk result (λ _. length (compact_text (reach_object reach.now)) ≤ 2_999) }
 {
     let router = reach.router.0;
+    let mut members = Map::new(alloc);
+    put(&mut members, alloc, "router", Value::from(router))?;
     let values = costs_value(alloc, &reach.values)?;
-    json!(in alloc; {"router": router, "values": values})
+    put(&mut members, alloc, "values", values)?;
+    Ok(Value::Object(members))
+}
+
+impl ItemValue for Reach {
+    ghost use Rattle.reply_codec.specs.ReplyBody.{reach_object};
+    ghost use Rattle.reply_codec.specs.ReplyLimits.{is_short_reach};
+
+    ghost spelled = { reach_object };
+
+    ghost fits = { is_short_reach };
+
+    ghost most = { 2_999 };
+
+    fn value(&self, alloc: Global) -> Result<Value, AllocError> {
+        reach_value(alloc, self)
+    }
 }
 
 /// A list of entries of at most 256 values: at most 3,000 bytes each, and 2.
@@ -138,9 +203,5 @@ pub(crate) fn reaches_value(alloc: Global, reaches: &Reaches) -> Result<Value, A
     ensures value { IfOk result (λ v. view v ≡ reach_objects reaches.now) }
     ensures few { IfOk result (λ _. length (compact_text (reach_objects reaches.now)) ≤ 2 + 3_000 * length reaches.now) }
 {
-    let mut values = Vec::new(alloc);
-    'reaches: for reach in reaches.as_slice() {
-        values.push(reach_value(alloc, reach)?)?;
-    }
-    Ok(Value::Array(values))
+    list_value(alloc, reaches.as_slice())
 }

@@ -6,8 +6,9 @@ ghost use Rattle.ctrl_model.specs.declared.refusals.Refusal.TheVariants as refus
 ghost use Rattle.reply_codec.specs.ReplyBody.{natural, kind_word, reason_word, denial_number, denial_name, plain_refusal, refusal_object};
 
 use crate::lists::name_value;
+use crate::members::put_text;
 use ctrl_model::{Denial, Field, Kind, Name, Reason, Refusal};
-use serde_json::{Value, json};
+use serde_json::{Map, Value, put};
 use std::alloc::{AllocError, Global};
 
 fn kind_word(kind: Kind) -> &'static str
@@ -78,41 +79,57 @@ fn plain_value(alloc: Global, code: u32, name: &str) -> Result<Value, AllocError
     ensures value { IfOk result (λ v. view v ≡ plain_refusal code name.now) }
     ensures few { IfOk result (λ _. length (compact_text (plain_refusal code name.now)) ≤ 1_000) }
 {
-    json!(in alloc; {"code": code, "name": name})
+    let mut members = Map::new(alloc);
+    put(&mut members, alloc, "code", Value::from(code))?;
+    put_text(&mut members, alloc, "name", name)?;
+    Ok(Value::Object(members))
 }
 
 fn bad_body_value(alloc: Global, field: Field, reason: Reason) -> Result<Value, AllocError>
     ensures value { IfOk result (λ v. view v ≡ refusal_object (refusal.BadBody field reason)) }
     ensures few { IfOk result (λ _. length (compact_text (refusal_object (refusal.BadBody field reason))) ≤ 1_000) }
 {
-    let word = field.word();
-    let why = reason_word(reason);
-    json!(in alloc; {"code": 11u32, "field": word, "name": "BadBody", "reason": why})
+    let mut members = Map::new(alloc);
+    put(&mut members, alloc, "code", Value::from(11u32))?;
+    put_text(&mut members, alloc, "field", field.word())?;
+    put_text(&mut members, alloc, "name", "BadBody")?;
+    put_text(&mut members, alloc, "reason", reason_word(reason))?;
+    Ok(Value::Object(members))
 }
 
 fn unknown_value(alloc: Global, field: Field) -> Result<Value, AllocError>
     ensures value { IfOk result (λ v. view v ≡ refusal_object (refusal.Unknown field)) }
     ensures few { IfOk result (λ _. length (compact_text (refusal_object (refusal.Unknown field))) ≤ 1_000) }
 {
-    let word = field.word();
-    json!(in alloc; {"code": 21u32, "field": word, "name": "Unknown"})
+    let mut members = Map::new(alloc);
+    put(&mut members, alloc, "code", Value::from(21u32))?;
+    put_text(&mut members, alloc, "field", field.word())?;
+    put_text(&mut members, alloc, "name", "Unknown")?;
+    Ok(Value::Object(members))
 }
 
 fn unknown_ref_value(alloc: Global, field: Field, name: &Name) -> Result<Value, AllocError>
     ensures value { IfOk result (λ v. view v ≡ refusal_object (refusal.UnknownRef field name.now)) }
     ensures few { IfOk result (λ _. length (compact_text (refusal_object (refusal.UnknownRef field name.now))) ≤ 1_000) }
 {
-    let word = field.word();
+    let mut members = Map::new(alloc);
+    put(&mut members, alloc, "code", Value::from(23u32))?;
+    put_text(&mut members, alloc, "field", field.word())?;
+    put_text(&mut members, alloc, "name", "UnknownRef")?;
     let absent = name_value(alloc, name)?;
-    json!(in alloc; {"code": 23u32, "field": word, "name": "UnknownRef", "ref": absent})
+    put(&mut members, alloc, "ref", absent)?;
+    Ok(Value::Object(members))
 }
 
 fn full_value(alloc: Global, kind: Kind) -> Result<Value, AllocError>
     ensures value { IfOk result (λ v. view v ≡ refusal_object (refusal.Full kind)) }
     ensures few { IfOk result (λ _. length (compact_text (refusal_object (refusal.Full kind))) ≤ 1_000) }
 {
-    let word = kind_word(kind);
-    json!(in alloc; {"code": 24u32, "kind": word, "name": "Full"})
+    let mut members = Map::new(alloc);
+    put(&mut members, alloc, "code", Value::from(24u32))?;
+    put_text(&mut members, alloc, "kind", kind_word(kind))?;
+    put_text(&mut members, alloc, "name", "Full")?;
+    Ok(Value::Object(members))
 }
 
 /// The object of a refusal: at most 1,000 bytes.

@@ -14,21 +14,25 @@ use crate::lists::{
 };
 use crate::refusal_bodies::refusal_value;
 use ctrl_model::{Bytes, CircuitNo, Explanation, Name, Names, Numbers, Reply, Tallies, TermNo};
-use serde_json::{Value, json};
+use serde_json::{Map, Value, json, put};
 use std::alloc::{AllocError, Global};
 
 fn made_value(alloc: Global, number: u32) -> Result<Value, AllocError>
     ensures value { IfOk result (λ v. Some (view v) ≡ reply_object (reply.Made number)) }
     ensures few { IfOk result (λ _. length (reply_body (reply.Made number)) ≤ longest_body) }
 {
-    json!(in alloc; {"no": number})
+    let mut members = Map::new(alloc);
+    put(&mut members, alloc, "no", Value::from(number))?;
+    Ok(Value::Object(members))
 }
 
 fn verified_value(alloc: Global, certified: bool) -> Result<Value, AllocError>
     ensures value { IfOk result (λ v. Some (view v) ≡ reply_object (reply.Verified certified)) }
     ensures few { IfOk result (λ _. length (reply_body (reply.Verified certified)) ≤ longest_body) }
 {
-    json!(in alloc; {"certified": certified})
+    let mut members = Map::new(alloc);
+    put(&mut members, alloc, "certified", Value::from(certified))?;
+    Ok(Value::Object(members))
 }
 
 fn circuit_value(
@@ -44,9 +48,15 @@ fn circuit_value(
     ensures few { IfOk result (λ _. length (reply_body (reply.Circuit circuit ingress.now links.now terminator total)) ≤ longest_body) }
 {
     let (no, end) = (circuit.0, terminator.0);
+    let mut members = Map::new(alloc);
+    put(&mut members, alloc, "circuit", Value::from(no))?;
     let name = name_value(alloc, ingress)?;
+    put(&mut members, alloc, "ingress", name)?;
     let path = numbers_value(alloc, links)?;
-    json!(in alloc; {"circuit": no, "ingress": name, "links": path, "terminator": end, "total": total})
+    put(&mut members, alloc, "links", path)?;
+    put(&mut members, alloc, "terminator", Value::from(end))?;
+    put(&mut members, alloc, "total", Value::from(total))?;
+    Ok(Value::Object(members))
 }
 
 fn explained_value(alloc: Global, ingress: &Name, claim: &Explanation) -> Result<Value, AllocError>
@@ -54,12 +64,19 @@ fn explained_value(alloc: Global, ingress: &Name, claim: &Explanation) -> Result
     ensures value { IfOk result (λ v. Some (view v) ≡ reply_object (reply.Explained ingress.now claim.now)) }
     ensures few { IfOk result (λ _. length (reply_body (reply.Explained ingress.now claim.now)) ≤ longest_body) }
 {
-    let name = name_value(alloc, ingress)?;
-    let path = numbers_value(alloc, &claim.links)?;
-    let potentials = reaches_value(alloc, &claim.potentials)?;
-    let routers = numbers_value(alloc, &claim.routers)?;
     let (end, total) = (claim.terminator.0, claim.total);
-    json!(in alloc; {"ingress": name, "links": path, "potentials": potentials, "routers": routers, "terminator": end, "total": total})
+    let mut members = Map::new(alloc);
+    let name = name_value(alloc, ingress)?;
+    put(&mut members, alloc, "ingress", name)?;
+    let path = numbers_value(alloc, &claim.links)?;
+    put(&mut members, alloc, "links", path)?;
+    let potentials = reaches_value(alloc, &claim.potentials)?;
+    put(&mut members, alloc, "potentials", potentials)?;
+    let routers = numbers_value(alloc, &claim.routers)?;
+    put(&mut members, alloc, "routers", routers)?;
+    put(&mut members, alloc, "terminator", Value::from(end))?;
+    put(&mut members, alloc, "total", Value::from(total))?;
+    Ok(Value::Object(members))
 }
 
 fn services_value(alloc: Global, names: &Names) -> Result<Value, AllocError>
@@ -67,8 +84,10 @@ fn services_value(alloc: Global, names: &Names) -> Result<Value, AllocError>
     ensures value { IfOk result (λ v. Some (view v) ≡ reply_object (reply.Services names.now)) }
     ensures few { IfOk result (λ _. length (reply_body (reply.Services names.now)) ≤ longest_body) }
 {
+    let mut members = Map::new(alloc);
     let services = names_value(alloc, names)?;
-    json!(in alloc; {"services": services})
+    put(&mut members, alloc, "services", services)?;
+    Ok(Value::Object(members))
 }
 
 fn grants_value(
@@ -83,10 +102,14 @@ fn grants_value(
     ensures value { IfOk result (λ v. Some (view v) ≡ reply_object (reply.Grants bind.now dial.now routers.now)) }
     ensures few { IfOk result (λ _. length (reply_body (reply.Grants bind.now dial.now routers.now)) ≤ longest_body) }
 {
+    let mut members = Map::new(alloc);
     let bound = tallies_value(alloc, bind)?;
+    put(&mut members, alloc, "bind", bound)?;
     let dialed = tallies_value(alloc, dial)?;
+    put(&mut members, alloc, "dial", dialed)?;
     let entered = tallies_value(alloc, routers)?;
-    json!(in alloc; {"bind": bound, "dial": dialed, "routers": entered})
+    put(&mut members, alloc, "routers", entered)?;
+    Ok(Value::Object(members))
 }
 
 fn shown_value(
@@ -101,12 +124,18 @@ fn shown_value(
     ensures value { IfOk result (λ v. Some (view v) ≡ reply_object (reply.Shown identity.now ingress.now links.now service.now terminator)) }
     ensures few { IfOk result (λ _. length (reply_body (reply.Shown identity.now ingress.now links.now service.now terminator)) ≤ longest_body) }
 {
-    let who = name_value(alloc, identity)?;
-    let entry = name_value(alloc, ingress)?;
-    let path = numbers_value(alloc, links)?;
-    let name = name_value(alloc, service)?;
     let end = terminator.0;
-    json!(in alloc; {"identity": who, "ingress": entry, "links": path, "service": name, "terminator": end})
+    let mut members = Map::new(alloc);
+    let who = name_value(alloc, identity)?;
+    put(&mut members, alloc, "identity", who)?;
+    let entry = name_value(alloc, ingress)?;
+    put(&mut members, alloc, "ingress", entry)?;
+    let path = numbers_value(alloc, links)?;
+    put(&mut members, alloc, "links", path)?;
+    let name = name_value(alloc, service)?;
+    put(&mut members, alloc, "service", name)?;
+    put(&mut members, alloc, "terminator", Value::from(end))?;
+    Ok(Value::Object(members))
 }
 
 fn counts_value(
@@ -123,16 +152,16 @@ fn counts_value(
     ensures value { IfOk result (λ v. Some (view v) ≡ reply_object (reply.Counts circuits grants identities links policies routers services terminators)) }
     ensures few { IfOk result (λ _. length (reply_body (reply.Counts circuits grants identities links policies routers services terminators)) ≤ longest_body) }
 {
-    json!(in alloc; {
-        "circuits": circuits,
-        "grants": grants,
-        "identities": identities,
-        "links": links,
-        "policies": policies,
-        "routers": routers,
-        "services": services,
-        "terminators": terminators
-    })
+    let mut members = Map::new(alloc);
+    put(&mut members, alloc, "circuits", Value::from(circuits))?;
+    put(&mut members, alloc, "grants", Value::from(grants))?;
+    put(&mut members, alloc, "identities", Value::from(identities))?;
+    put(&mut members, alloc, "links", Value::from(links))?;
+    put(&mut members, alloc, "policies", Value::from(policies))?;
+    put(&mut members, alloc, "routers", Value::from(routers))?;
+    put(&mut members, alloc, "services", Value::from(services))?;
+    put(&mut members, alloc, "terminators", Value::from(terminators))?;
+    Ok(Value::Object(members))
 }
 
 fn picked_value(
@@ -146,9 +175,14 @@ fn picked_value(
     ensures value { IfOk result (λ v. Some (view v) ≡ reply_object (reply.Picked address.now low high service.now)) }
     ensures few { IfOk result (λ _. length (reply_body (reply.Picked address.now low high service.now)) ≤ longest_body) }
 {
+    let mut members = Map::new(alloc);
     let spelling = address_value(alloc, address)?;
+    put(&mut members, alloc, "address", spelling)?;
+    put(&mut members, alloc, "high", Value::from(high))?;
+    put(&mut members, alloc, "low", Value::from(low))?;
     let name = name_value(alloc, service)?;
-    json!(in alloc; {"address": spelling, "high": high, "low": low, "service": name})
+    put(&mut members, alloc, "service", name)?;
+    Ok(Value::Object(members))
 }
 
 fn clashes_value(alloc: Global, names: &Names) -> Result<Value, AllocError>
@@ -156,8 +190,10 @@ fn clashes_value(alloc: Global, names: &Names) -> Result<Value, AllocError>
     ensures value { IfOk result (λ v. Some (view v) ≡ reply_object (reply.Clashes names.now)) }
     ensures few { IfOk result (λ _. length (reply_body (reply.Clashes names.now)) ≤ longest_body) }
 {
+    let mut members = Map::new(alloc);
     let services = names_value(alloc, names)?;
-    json!(in alloc; {"clashes": services})
+    put(&mut members, alloc, "clashes", services)?;
+    Ok(Value::Object(members))
 }
 
 // The object of a reply that shows what there is: services, grants, a circuit, counts, what is picked or clashes. None is another

@@ -4,7 +4,7 @@ use Rattle.serde_json.proofs.OnLiterals.{serde_json_on_literals}
 use Rattle.reply_codec.proofs.TextLengths.{length-natural}
 use Rattle.reply_codec.proofs.lists.reach_value.Goals as goal
 
-pub returns-in-Ok-json-4-clause-few : goal.returns-in-Ok-json-4-clause-few
+pub returns-clause-few : goal.returns-clause-few
 unfolding serde_json_on_literals
-returns-in-Ok-json-4-clause-few c =
+returns-clause-few c =
     simp length-append (omega (arith, length-natural c.args.reach.now.router.0 (omega arith), c.in_ok-values.ensures.few, leb-true (length c.args.reach.now.values) 256 (and_parts _ _ c.requires).0))

@@ -6,7 +6,7 @@ use Rattle.reply_codec.proofs.TextLengths.{length-natural, length-string}
 use Rattle.reply_codec.proofs.WordLengths.{length-word, length-reason}
 use Rattle.reply_codec.proofs.refusal_bodies.bad_body_value.Goals as goal
 
-pub returns-in-Ok-json-8-clause-few : goal.returns-in-Ok-json-8-clause-few
+pub returns-clause-few : goal.returns-clause-few
 unfolding serde_json_on_literals
-returns-in-Ok-json-8-clause-few c =
+returns-clause-few c =
     simp length-append (omega (arith, length-natural 11 (lit< tt), simp length-append at (length-string (word_of c.args.field)), length-word c.args.field, simp length-append at (length-string (reason_word c.args.reason)), length-reason c.args.reason))

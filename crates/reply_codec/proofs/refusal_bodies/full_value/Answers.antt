@@ -5,7 +5,7 @@ use Rattle.reply_codec.proofs.TextLengths.{length-natural, length-string}
 use Rattle.reply_codec.proofs.WordLengths.{length-kind}
 use Rattle.reply_codec.proofs.refusal_bodies.full_value.Goals as goal
 
-pub returns-in-Ok-json-6-clause-few : goal.returns-in-Ok-json-6-clause-few
+pub returns-clause-few : goal.returns-clause-few
 unfolding serde_json_on_literals
-returns-in-Ok-json-6-clause-few c =
+returns-clause-few c =
     simp length-append (omega (arith, length-natural 24 (lit< tt), simp length-append at (length-string (kind_word c.args.kind)), length-kind c.args.kind))

@@ -2,7 +2,7 @@ use Rattle.std.proofs.Common.{length-append, arith}
 use Rattle.serde_json.proofs.OnLiterals.{serde_json_on_literals}
 use Rattle.reply_codec.proofs.reply_bodies.grants_value.Goals as goal
 
-pub returns-in-Ok-json-6-clause-few : goal.returns-in-Ok-json-6-clause-few
+pub returns-clause-few : goal.returns-clause-few
 unfolding serde_json_on_literals
-returns-in-Ok-json-6-clause-few c =
+returns-clause-few c =
     simp length-append (omega (arith, c.in_ok-bound.ensures.few, c.in_ok-dialed.ensures.few, c.in_ok-entered.ensures.few, c.requires.bind, c.requires.dial, c.requires.routers))

@@ -9,5 +9,5 @@ unfolding serde_json_on_literals
 length-verified true = lit≤ tt
 length-verified false = lit≤ tt
 
-pub returns-in-Ok-json-2-clause-few : goal.returns-in-Ok-json-2-clause-few
-returns-in-Ok-json-2-clause-few c = length-verified c.args.certified
+pub returns-clause-few : goal.returns-clause-few
+returns-clause-few c = length-verified c.args.certified
