@@ -7,13 +7,13 @@ ghost use Rattle.serde_json.specs.Written.{compact_text};
 ghost use Rattle.ctrl_model.specs.Numbered.{is_present};
 ghost use Rattle.reply_codec.specs.ReplyBody.{denial_number as number_of_denial};
 ghost use Rattle.policy_advisor.specs.AdvisedStates.{HasRouters};
-ghost use Rattle.policy_advisor.specs.Reports.{mark_array, mark_arrays, object_with, report_line, report_object, router_name, router_names};
+ghost use Rattle.policy_advisor.specs.Reports.{mark_array, mark_arrays, report_line, report_object, router_name, router_names};
 
 use crate::advised::{Advice, Marked, Marks};
 use ctrl_model::{Bytes, Denial, Numbers, RouterNo};
 use entity_store::Entities;
 use reply_codec::{denial_number, name_value, numbers_value};
-use serde_json::{Value, json};
+use serde_json::{Map, Value, json, put};
 use std::alloc::{AllocError, Global};
 
 // The name of a present router.
@@ -69,53 +69,27 @@ fn rule_number(rule: Option<Denial>) -> u32
     }
 }
 
-// The object of an advice, whose lists are written so.
-fn object_with(
-    alloc: Global,
-    advice: &Advice,
-    admissible: Value,
-    common: Value,
-    online: Value,
-    policies: Value,
-    terminators: Value,
-) -> Result<Value, AllocError>
-    ensures { IfOk result (λ v. view v ≡ object_with advice.now (view admissible) (view common) (view online) (view policies) (view terminators)) }
-{
-    let (bind, dial) = (advice.bind, advice.dial);
-    let rule = rule_number(advice.rule);
-    let yes = advice.rule.is_none();
-    json!(in alloc; {
-        "admissible": admissible,
-        "bind": bind,
-        "common": common,
-        "dial": dial,
-        "online": online,
-        "policies": policies,
-        "rule": rule,
-        "terminators": terminators,
-        "yes": yes
-    })
-}
-
 // The object of an advice.
 fn report_value(alloc: Global, advice: &Advice, entities: &Entities) -> Result<Value, AllocError>
     requires { HasRouters entities.now.routers.rows advice.now }
     ensures { IfOk result (λ v. view v ≡ report_object entities.now.routers.rows advice.now) }
 {
+    let mut members = Map::new(alloc);
     let admissible = numbers_value(alloc, &advice.admissible)?;
+    put(&mut members, alloc, "admissible", admissible)?;
+    put(&mut members, alloc, "bind", Value::from(advice.bind))?;
     let common = routers_value(alloc, entities, &advice.common)?;
+    put(&mut members, alloc, "common", common)?;
+    put(&mut members, alloc, "dial", Value::from(advice.dial))?;
     let online = routers_value(alloc, entities, &advice.online)?;
+    put(&mut members, alloc, "online", online)?;
     let policies = marks_value(alloc, &advice.policies)?;
+    put(&mut members, alloc, "policies", policies)?;
+    put(&mut members, alloc, "rule", Value::from(rule_number(advice.rule)))?;
     let terminators = numbers_value(alloc, &advice.terminators)?;
-    object_with(
-        alloc,
-        advice,
-        admissible,
-        common,
-        online,
-        policies,
-        terminators,
-    )
+    put(&mut members, alloc, "terminators", terminators)?;
+    put(&mut members, alloc, "yes", Value::from(advice.rule.is_none()))?;
+    Ok(Value::Object(members))
 }
 
 /// The report of an advice whose routers are present: one line of compact JSON, with routers by their names (docs/FORMATS.md,
