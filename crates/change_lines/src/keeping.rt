@@ -9,7 +9,7 @@ ghost use Rattle.slot_reading.specs.BatchRows.{puts, rows_in};
 ghost use Rattle.change_lines.specs.KeptRows.{AreKeptOf};
 ghost use Rattle.change_lines.specs.RowChanges.{AreRowsOf};
 
-use ctrl_model::{Bytes, Format};
+use ctrl_model::Format;
 use row_codec::{Batch, Op, Row};
 use row_loading::{CoreFault, read_rows};
 use row_writing::write_row;

@@ -10,7 +10,7 @@ ghost use Rattle.follow_core.specs.Following.{is_whole_of};
 ghost use Rattle.follow_core.specs.Steps.{AreOfSerial};
 
 use ctrl_core::{Core, CoreFault};
-use ctrl_model::Format;
+use ctrl_model::{Bytes, Format};
 use row_codec::{Batch, Op};
 use row_store::Store;
 use slot_reading::{Rows, change_all, puts, serial_in};
@@ -130,7 +130,11 @@ pub(crate) fn are_of_serial(alloc: Global, serial: u64, rows: &Batch) -> Result<
     ensures no { IfOk result (λ yes. yes ≡ false → (put : ByteRows) → rows.now ≡ puts put → AreOfSerial serial put → ⊥) }
 {
     match Core::from_rows(alloc, Format::Two, rows) {
-        Ok(core) => Ok(core.serial() == serial),
+        Ok(core) => {
+            let is_of_serial = core.serial() == serial;
+            drop(core);
+            Ok(is_of_serial)
+        }
         Err(CoreFault::NotAState { .. }) => Ok(false),
         Err(CoreFault::NoMemory) => Err(AllocError),
     }

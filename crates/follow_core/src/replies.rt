@@ -98,14 +98,9 @@ pub fn write_taken(
     ensures frame { IfOk result (λ f. f ≡ taken_frame sequence reply_for own taken.now) }
     ensures limits { IfOk result KeepsLimits }
 {
-    let body = body_of(alloc, own, taken)?;
-    let like = write(alloc, &reply_like(taken), sequence, reply_for)?;
-    Ok(Frame {
-        content: like.content,
-        sequence: like.sequence,
-        headers: like.headers,
-        body,
-    })
+    let mut frame = write(alloc, &reply_like(taken), sequence, reply_for)?;
+    frame.body = body_of(alloc, own, taken)?;
+    Ok(frame)
 }
 
 /// Replies, worked by hand: a batch that was taken, 65 bytes in all; a repeat, an old one and a piece; one that differs; one that comes too early; and

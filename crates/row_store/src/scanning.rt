@@ -5,7 +5,7 @@ ghost use Rattle.row_store.specs.WrittenRows.{each_as};
 use crate::writing::{Writing, value_as};
 use ctrl_model::Bytes;
 use row_codec::{Batch, Op};
-use slot_reading::Rows;
+use slot_reading::{Rows, put_of};
 use std::alloc::{AllocError, Global};
 
 fn is_of_table(key: &[u8], table: u8) -> bool
@@ -15,14 +15,6 @@ fn is_of_table(key: &[u8], table: u8) -> bool
         None => false,
         Some(byte) => *byte == table,
     }
-}
-
-fn put_of(alloc: Global, key: &[u8], value: &[u8]) -> Result<Op, AllocError>
-    ensures { IfOk result (λ op. op ≡ Op.Put key.now value.now) }
-{
-    let key = Bytes::from_slice(alloc, key)?;
-    let value = Bytes::from_slice(alloc, value)?;
-    Ok(Op::Put { key, value })
 }
 
 // Adds a row as a put where it is one of a table.

@@ -8,6 +8,6 @@ mod reading;
 mod serials;
 
 pub use changing::{Rows, change_all};
-pub use putting::puts;
+pub use putting::{put_of, puts};
 pub use reading::{batch_behind, read_slot};
 pub use serials::serial_in;

@@ -6,8 +6,8 @@ use ctrl_model::Bytes;
 use row_codec::{Batch, Op};
 use std::alloc::{AllocError, Global};
 
-// The operation that puts a value under a key.
-fn put_of(alloc: Global, key: &[u8], value: &[u8]) -> Result<Op, AllocError>
+/// The operation that puts a value under a key.
+pub fn put_of(alloc: Global, key: &[u8], value: &[u8]) -> Result<Op, AllocError>
     ensures { IfOk result (λ op. op ≡ Op.Put key.now value.now) }
 {
     let key = Bytes::from_slice(alloc, key)?;
