@@ -5,3 +5,4 @@ pub mod JudgedCircuits
 pub mod GrantedCircuits
 pub mod LeastWays
 pub mod EmptiedLaws
+pub mod SiftedNumbers

@@ -23,6 +23,10 @@ pairs_of Bind g = g.bind
 pairs_of IdentityRouter g = g.identity_router
 pairs_of ServiceRouter g = g.service_router
 
+-- The pairs that have a count now, beside what they will have.
+abbrev pub pairs_before : GrantsAfter → Pairs
+pairs_before g = record { dial = g.dial.before; bind = g.bind.before; identity_router = g.identity_router.before; service_router = g.service_router.before }
+
 -- Exactly those pairs have a count at which some steps go down and that have none after them.
 abbrev pub TellEmptied : List Delta → (ℕ → ℕ → ℕ) → List ((ℕ × ℕ) × ℕ) → Type 0
 TellEmptied ds after pairs = (a b : ℕ) → nat_lt 0 (count_of pairs a b) ≡ (nat_lt 0 (downs ds a b) && (after a b == 0))

@@ -59,8 +59,13 @@ impl<'a> ChangedRows for CircuitRows<'a> {
     fn rows_at(&self, number: u32) -> Result<(Option<Row>, Option<Row>), AllocError> {
         let no = CircuitNo(number);
         let before = row_of(no, self.circuits.seen(no))?;
-        let after = row_of(no, self.after.get(no))?;
-        Ok((before, after))
+        match row_of(no, self.after.get(no)) {
+            Ok(after) => Ok((before, after)),
+            Err(fault) => {
+                drop(before);
+                Err(fault)
+            }
+        }
     }
 }
 

@@ -1,4 +1,4 @@
-ghost use Rattle.std.specs.Prelude.{◌≡◌, ℕ, ◌≤◌, [], IfOk};
+ghost use Rattle.std.specs.Prelude.{◌≡◌, ℕ, ◌≤◌, [], IfOk, OnOk, OnErr};
 ghost use Rattle.ctrl_model.specs.Limits.{most_number};
 ghost use Rattle.grant_denorm.specs.CountsAfter.{count_after, goes, steps_at};
 ghost use Rattle.grant_denorm.specs.PairCounts.{count_of};
@@ -51,33 +51,28 @@ fn tally(alloc: Global, steps: &[Delta], up: bool) -> Result<Counted, AllocError
 
 impl<'a> CountedAfter<'a> {
     /// The counts as they are.
-    pub fn unchanged(alloc: Global, counted: &'a Counted) -> Result<CountedAfter<'a>, AllocError>
-        ensures { IfOk result (λ c. c ≡ record { before = counted.now; up = []; down = [] }) }
+    pub fn unchanged(alloc: Global, counted: &'a Counted) -> CountedAfter<'a>
+        ensures { result ≡ record { before = counted.now; up = []; down = [] } }
     {
-        Ok(CountedAfter {
+        CountedAfter {
             counted,
-            ups: Counted::new(alloc)?,
-            downs: Counted::new(alloc)?,
-        })
+            ups: Counted::empty(alloc),
+            downs: Counted::empty(alloc),
+        }
     }
 
-    /// The counts once some steps are taken, in any order. No pair may have more steps down than its count, nor so many up that its
-    /// count passes 4,294,967,295. It looks at the steps, and copies no count.
-    pub fn new(
-        alloc: Global,
-        counted: &'a Counted,
-        steps: &[Delta],
-    ) -> Result<CountedAfter<'a>, AllocError>
-        requires { HaveRoom counted.now steps.now }
-        ensures { IfOk result (λ c. Taken counted.now (count_after c) steps.now) }
+    /// The counts once some steps are taken, in any order, in place of those that were to be taken so far. No pair may have more steps
+    /// down than its count, nor so many up that its count passes 4,294,967,295. It looks at the steps, and copies no count.
+    pub fn set_steps(&mut self, alloc: Global, steps: &[Delta]) -> Result<(), AllocError>
+        requires { HaveRoom self.old.before steps.now }
+        ensures ok { OnOk result (Taken self.old.before (count_after self.new) steps.now) }
+        ensures err { OnErr result (self.new ≡ self.old) }
     {
         let ups = tally(alloc, steps, true)?;
         let downs = tally(alloc, steps, false)?;
-        Ok(CountedAfter {
-            counted,
-            ups,
-            downs,
-        })
+        self.ups = ups;
+        self.downs = downs;
+        Ok(())
     }
 
     /// The count that a pair will have, 0 where it will have none.

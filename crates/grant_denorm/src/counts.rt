@@ -82,11 +82,13 @@ fn column_in(
 ) -> Result<Vec<u32>, AllocError>
     ensures { IfOk result (λ v. v.items ≡ map (λ e. e.0.0) (filter (λ e. e.0.1 == b) counts.now.entries)) }
 {
-    counts
-        .iter()
-        .filter(|entry| entry.0.1 == b)
-        .map(|entry| entry.0.0)
-        .collect(alloc)
+    let mut column = Vec::new(alloc);
+    'pairs: for (pair, _) in counts.iter() {
+        if pair.1 == b {
+            column.push(pair.0)?;
+        }
+    }
+    Ok(column)
 }
 
 fn copy_of(counts: &BTreeMap<(u32, u32), u32>) -> Result<BTreeMap<(u32, u32), u32>, AllocError>
@@ -152,6 +154,15 @@ impl Counted {
     {
         let column = column_in(&self.counts, alloc, b)?;
         Ok(Numbers::of(column))
+    }
+
+    /// Counts of no pair, which takes no memory.
+    pub fn empty(alloc: Global) -> Counted
+        ensures { result ≡ [] }
+    {
+        Counted {
+            counts: BTreeMap::new(alloc),
+        }
     }
 
     /// Equal counts.

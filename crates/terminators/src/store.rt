@@ -61,8 +61,8 @@ fn admissible_in(
     grants: &Grants,
     service: ServiceNo,
     instance: &Instance,
-) -> Result<Vec<u32>, AllocError>
-    ensures { IfOk result (λ v. v.items ≡ numbers (filter (λ row. is_admissible (granted grants.now) service.0 instance.now (row.0, row.1.term)) terms.now.rows)) }
+) -> Result<Numbers, AllocError>
+    ensures { IfOk result (λ ns. ns ≡ numbers (filter (λ row. is_admissible (granted grants.now) service.0 instance.now (row.0, row.1.term)) terms.now.rows)) }
 {
     let mut found = Vec::new(alloc);
     'terms: for (number, kept) in terms.rows() {
@@ -70,7 +70,7 @@ fn admissible_in(
             found.push(*number)?;
         }
     }
-    Ok(found)
+    Ok(Numbers::of(found))
 }
 
 impl Terminators {
@@ -253,16 +253,15 @@ impl Terminators {
     ) -> Result<Numbers, AllocError>
         ensures { IfOk result (λ ns. ns ≡ numbers (admissible (network self.now (count_of bind.now) (count_of identity_router.now) (count_of service_router.now) routers.now) service.0 instance.now)) }
     {
-        let bind = CountedAfter::unchanged(alloc, bind)?;
-        let identity_router = CountedAfter::unchanged(alloc, identity_router)?;
-        let service_router = CountedAfter::unchanged(alloc, service_router)?;
+        let bind = CountedAfter::unchanged(alloc, bind);
+        let identity_router = CountedAfter::unchanged(alloc, identity_router);
+        let service_router = CountedAfter::unchanged(alloc, service_router);
         let grants = Grants {
             bind: &bind,
             identity_router: &identity_router,
             service_router: &service_router,
             routers,
         };
-        let found = admissible_in(alloc, &self.terms, &grants, service, instance)?;
-        Ok(Numbers::of(found))
+        admissible_in(alloc, &self.terms, &grants, service, instance)
     }
 }
