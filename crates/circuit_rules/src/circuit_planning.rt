@@ -151,6 +151,24 @@ fn is_certified(
     verified(alloc, parts, &ask, claim)
 }
 
+// Whether a route that is claimed from the ingress of a number is justified for a request.
+fn is_certified_from(
+    alloc: Global,
+    parts: &Parts,
+    request: &Request,
+    ingress: u32,
+    links: &Numbers,
+    potentials: &Reaches,
+    routers: &Numbers,
+    terminator: u32,
+    total: u32,
+) -> Result<bool, AllocError>
+    ensures { IfOk result (λ yes. yes ≡ justified (network_in parts.now) (ask_at request.now (with_entities parts.now.entities.now)) (claim_from links.now potentials.now routers.now terminator total ingress)) }
+{
+    let claim = claim_of(ingress, links, potentials, routers, terminator, total)?;
+    is_certified(alloc, parts, request, &claim)
+}
+
 // Plans the answer to VerifyRoute.
 fn plan_verify_route(
     alloc: Global,
@@ -168,8 +186,9 @@ fn plan_verify_route(
     let Ok(ingress) = parts.entities.find(Kind::Router, chosen) else {
         return Ok(Plan::shown(Reply::Verified { certified: false }));
     };
-    let claim = claim_of(ingress, links, potentials, routers, terminator, total)?;
-    let certified = is_certified(alloc, parts, request, &claim)?;
+    let certified = is_certified_from(
+        alloc, parts, request, ingress, links, potentials, routers, terminator, total,
+    )?;
     Ok(Plan::shown(Reply::Verified { certified }))
 }
 

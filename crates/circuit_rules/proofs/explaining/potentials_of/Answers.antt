@@ -2,7 +2,7 @@ use Rattle.std.proofs.Common.{rules, sym, ◌∙◌, subst}
 use Rattle.circuit_rules.specs.Views.{network}
 use Rattle.circuit_rules.specs.Reached.{AreOn}
 use Rattle.circuit_rules.proofs.ReachLaws.{carrying_on}
-use Rattle.circuit_rules.proofs.explaining.explanation.Goals as goal
+use Rattle.circuit_rules.proofs.explaining.potentials_of.Goals as goal
 
 pub reaches-requires-clause-on : goal.reaches-requires-clause-on
 reaches-requires-clause-on c =
