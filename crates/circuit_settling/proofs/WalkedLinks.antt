@@ -55,3 +55,22 @@ goes-on hop t seen ls v l n e new = by (hop v l) e ∙ goes-alike hop t ls (n �
         let same : h.0 ≡ n = sym (same_Some n h.0 e) in
         ap (λ b. option_map_or (λ (h : ℕ × ℕ). goes hop t (h.0 ∷ seen) h.0 ls) (cond b None (Some h)) false) (ap (λ m. is_among m seen) same ∙ new)
         ∙ ap (λ m. goes hop t (m ∷ seen) m ls) same
+
+-- a walk ends at a link that leads nowhere
+pub goes-nowhere : (hop : Hops) (t : ℕ) (links seen : List ℕ) (i v : ℕ) → i < length links → None ≡ leads (hop v (get_or links i 0)) → goes hop t seen v (drop i links) ≡ false
+goes-nowhere hop t links seen i v below e = goes-first hop t links seen i v below ∙ by (hop v (get_or links i 0)) e
+  where
+    by : (o : Option (ℕ × ℕ)) → None ≡ leads o → option_map_or (λ (h : ℕ × ℕ). goes hop t (h.0 ∷ seen) h.0 (drop (i + 1) links)) (option_and_then (where_new seen) o) false ≡ false
+    by None e = refl
+    by (Some h) e = absurd (none-some h.0 e)
+
+-- and at one that leads to a router that was visited
+pub goes-back : (hop : Hops) (t : ℕ) (links seen : List ℕ) (i v n : ℕ) → i < length links → Some n ≡ leads (hop v (get_or links i 0)) → is_among n seen ≡ true
+    → goes hop t seen v (drop i links) ≡ false
+goes-back hop t links seen i v n below e old = goes-first hop t links seen i v below ∙ by (hop v (get_or links i 0)) e
+  where
+    by : (o : Option (ℕ × ℕ)) → Some n ≡ leads o → option_map_or (λ (h : ℕ × ℕ). goes hop t (h.0 ∷ seen) h.0 (drop (i + 1) links)) (option_and_then (where_new seen) o) false ≡ false
+    by None e = absurd (none-some n (sym e))
+    by (Some h) e =
+        let same : h.0 ≡ n = sym (same_Some n h.0 e) in
+        ap (λ b. option_map_or (λ (h : ℕ × ℕ). goes hop t (h.0 ∷ seen) h.0 (drop (i + 1) links)) (cond b None (Some h)) false) (ap (λ m. is_among m seen) same ∙ old)
