@@ -1,8 +1,8 @@
-ghost use Rattle.std.specs.Prelude.{◌≡◌, true, Some, OnOk, [], ◌++◌};
+ghost use Rattle.std.specs.Prelude.{◌≡◌, true, false, Some, OnOk, [], ◌++◌};
 ghost use Rattle.entity_store.specs.AttributeUses.{has_attribute_room, Holds};
 ghost use Rattle.policy_store.specs.declared.changes.PolicyChange.TheVariants as change;
 ghost use Rattle.policy_store.specs.PolicyTables.{is_policy_kind, number_of};
-ghost use Rattle.policy_store.specs.PolicyRules.{is_there};
+ghost use Rattle.policy_store.specs.PolicyRules.{is_there, put_in};
 ghost use Rattle.policy_store.specs.PolicyChanges.{CanChangePolicies};
 ghost use Rattle.policy_commands.specs.ForgottenEntities.{ForgetsEntity, forgetting_by};
 ghost use Rattle.policy_commands.specs.PolicyStates.{HoldsUses};
@@ -60,6 +60,25 @@ fn let_policy_go(
     Ok(())
 }
 
+// Lets the uses go that the policy of a number has, and holds those of the one that will stand in its place.
+fn change_uses(
+    alloc: Global,
+    entities: &mut Entities,
+    policies: &Policies,
+    kind: Kind,
+    number: u32,
+    policy: &Policy,
+) -> Result<(), AllocError>
+    requires kind { is_policy_kind kind ≡ true }
+    requires named { number_of kind policy.now.name policies.now ≡ Some number }
+    requires leads { LeadsOn (change.Replace kind number policy.now) entities.old policies.now }
+    requires held { HoldsUses entities.old policies.now }
+    ensures { OnOk result (Rules (change.Replace kind number policy.now) entities.old entities.new policies.now (put_in kind policy.now false policies.now)) }
+{
+    let_policy_go(alloc, entities, policies, kind, number)?;
+    hold_policy(alloc, entities, policy)
+}
+
 fn replace_policy(
     alloc: Global,
     entities: &mut Entities,
@@ -74,8 +93,7 @@ fn replace_policy(
     requires held { HoldsUses entities.old policies.old }
     ensures { OnOk result (Rules (change.Replace kind number policy) entities.old entities.new policies.old policies.new) }
 {
-    let_policy_go(alloc, entities, policies, kind, number)?;
-    hold_policy(alloc, entities, &policy)?;
+    change_uses(alloc, entities, policies, kind, number, &policy)?;
     policies.put(kind, policy, false)?;
     Ok(())
 }

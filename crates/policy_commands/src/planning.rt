@@ -1,12 +1,14 @@
-ghost use Rattle.std.specs.Prelude.{◌≡◌, ◌<◌, ◌||◌, true, false, IfOk, OnErr, Err, MatchOption, length, slice_index_or, []};
+ghost use Rattle.std.specs.Prelude.{◌≡◌, ◌<◌, ◌||◌, ◌++◌, true, false, not, IfOk, OnErr, Err, MatchOption, length, slice_index_or, []};
 ghost use Rattle.ctrl_model.specs.SpelledCommands.{is_spelled};
 ghost use Rattle.ctrl_model.specs.Controller.{carry};
 ghost use Rattle.ctrl_model.specs.RecordCommands.{delete};
+ghost use Rattle.ctrl_model.specs.Rules.{refuse_if};
 ghost use Rattle.ctrl_model.specs.State.{State};
 ghost use Rattle.ctrl_model.specs.ValidState.{ValidState};
-ghost use Rattle.ctrl_model.specs.declared.refusals.Refusal.TheVariants.{Unknown, UnknownRef};
+ghost use Rattle.ctrl_model.specs.declared.kinds.Kind.TheVariants as kinds;
+ghost use Rattle.ctrl_model.specs.declared.refusals.Refusal.TheVariants.{Full, Unknown, UnknownRef};
 ghost use Rattle.model_laws.specs.Plans.{refused};
-ghost use Rattle.entity_store.specs.AttributeUses.{AreUsed};
+ghost use Rattle.entity_store.specs.AttributeUses.{AreUsed, has_attribute_room};
 ghost use Rattle.entity_store.specs.EntityTables.{Tables};
 ghost use Rattle.policy_store.specs.PolicyTables.{is_policy_kind};
 ghost use Rattle.policy_commands.specs.PolicyStates.{HoldsUses, over};
@@ -87,6 +89,48 @@ fn refusal_for(kind: Kind, policy: &PolicyView, fault: PolicyFault) -> Result<Re
     }
 }
 
+// Whether the attributes of a policy find room, where some uses of attributes go.
+fn finds_room(
+    alloc: Global,
+    entities: &Entities,
+    policy: &Policy,
+    gone: &Names,
+) -> Result<bool, AllocError>
+    requires { AreUsed entities.now gone.now }
+    ensures { IfOk result (λ yes. yes ≡ has_attribute_room entities.now gone.now (policy.now.left.attributes ++ policy.now.right.attributes)) }
+{
+    let names = policy_names(alloc, policy)?;
+    Ok(entities.has_room(gone, &names))
+}
+
+// A policy whose attributes find room, or else its refusal.
+fn where_room(policy: Policy, room: bool) -> Result<Policy, Refusal>
+    ensures { IsJudged policy (refuse_if (not room) (Full kinds.Attribute)) result }
+{
+    if room {
+        Ok(policy)
+    } else {
+        Err(Refusal::Full {
+            kind: Kind::Attribute,
+        })
+    }
+}
+
+// A copy of a policy that the store does not refuse, where some uses of attributes go, or its refusal.
+fn copied_in_room(
+    alloc: Global,
+    entities: &Entities,
+    policy: &PolicyView,
+    gone: &Names,
+) -> Result<Result<Policy, Refusal>, AllocError>
+    requires { AreUsed entities.now gone.now }
+    ensures { IfOk result (IsJudged policy.now (refuse_if (not (has_attribute_room entities.now gone.now (policy.now.left.attributes ++ policy.now.right.attributes))) (Full kinds.Attribute))) }
+{
+    let policy = policy.copied()?;
+    let room = finds_room(alloc, entities, &policy, gone)?;
+    Ok(where_room(policy, room))
+}
+
 // The policy that is put, where some uses of attributes go, or its refusal. It is copied once no rule refuses it that needs no memory.
 fn policy_to_put(
     alloc: Global,
@@ -101,18 +145,10 @@ fn policy_to_put(
     ensures judged { IfOk result (IsJudged policy.now (refusal_to_put kind policy.now fresh gone.now known.now.policies.now known.now.entities.now)) }
     ensures memory { OnErr result (needs_memory (may_put kind policy.now fresh known.now.policies.now known.now.entities.now) ≡ true) }
 {
-    let judged = may_put(known.policies, kind, policy, fresh, known.entities);
-    if let Err(fault) = judged {
-        return Ok(Err(refusal_for(kind, policy, fault)?));
+    match may_put(known.policies, kind, policy, fresh, known.entities) {
+        Ok(()) => copied_in_room(alloc, known.entities, policy, gone),
+        Err(fault) => Ok(Err(refusal_for(kind, policy, fault)?)),
     }
-    let policy = policy.copied()?;
-    let names = policy_names(alloc, &policy)?;
-    if known.entities.has_room(gone, &names) {
-        return Ok(Ok(policy));
-    }
-    Ok(Err(Refusal::Full {
-        kind: Kind::Attribute,
-    }))
 }
 
 // The plan of a command whose name nothing has.

@@ -1,4 +1,4 @@
-ghost use Rattle.std.specs.Prelude.{◌≡◌, ℕ, ◌++◌, true, Some, IfOk, IfSome, OnOk};
+ghost use Rattle.std.specs.Prelude.{◌≡◌, ℕ, ◌∷◌, [], ◌++◌, true, Some, IfOk, IfSome, OnOk};
 ghost use Rattle.std.specs.Option.{option_map};
 ghost use Rattle.ctrl_model.specs.declared.formats.Format.{Format};
 ghost use Rattle.ctrl_model.specs.declared.formats.Format.TheVariants.{Two};
@@ -17,7 +17,7 @@ ghost use Rattle.policy_store.specs.PolicyTables.{forgetting, is_policy_kind, po
 ghost use Rattle.policy_store.specs.Stores.{forget_on};
 
 use ctrl_model::{Kind, Name, PolicyNo};
-use policy_store::{Hand, Policies, Policy, PolicyChange, copy_policy, forget_on_side};
+use policy_store::{Hand, Policies, Policy, PolicyChange, copy_policy, forget_on_side, policy_of};
 use row_codec::{Change, Changes, Row};
 use row_writing::row_change;
 use std::alloc::{AllocError, Global};
@@ -120,16 +120,32 @@ fn touched(kept: &Policies, change: &PolicyChange) -> (Kind, u32)
     }
 }
 
-// A policy with another's parts under its own name, if it is there.
-fn with_parts(kept: Option<Policy>, other: &Policy) -> Result<Option<Policy>, AllocError>
-    ensures { IfOk result (λ p. p ≡ option_map (replaced_by other.now) kept) }
+// A policy with another's parts under the name that it has.
+fn under_name(name: &Name, other: &Policy) -> Result<Policy, AllocError>
+    ensures { IfOk result (λ p. p ≡ record other.now { name = name.now }) }
 {
-    let Some(kept) = kept else {
-        return Ok(None);
-    };
-    let mut policy = copy_policy(other)?;
-    policy.name = kept.name;
-    Ok(Some(policy))
+    policy_of(
+        name,
+        other.relation,
+        other.semantic,
+        &other.left,
+        &other.right,
+    )
+}
+
+// The policy of a number with another's parts under its own name, if it is there.
+fn with_parts(
+    kept: &Policies,
+    kind: Kind,
+    number: u32,
+    other: &Policy,
+) -> Result<Option<Policy>, AllocError>
+    ensures { IfOk result (λ p. p ≡ option_map (replaced_by other.now) (at (policies kind kept.now) number)) }
+{
+    match kept.get(kind, PolicyNo(number)) {
+        Some(policy) => Ok(Some(under_name(&policy.name, other)?)),
+        None => Ok(None),
+    }
 }
 
 // The policy that a change touches, as it will be.
@@ -147,9 +163,37 @@ fn policy_after(kept: &Policies, change: &PolicyChange) -> Result<Option<Policy>
             kind,
             number,
             policy,
-        } => with_parts(policy_before(kept, *kind, *number)?, policy),
+        } => with_parts(kept, *kind, *number, policy),
         PolicyChange::Remove { .. } => Ok(None),
     }
+}
+
+// The change of the row of the policy that a change touches.
+fn touched_change(
+    alloc: Global,
+    kept: &Policies,
+    change: &PolicyChange,
+) -> Result<Change, AllocError>
+    requires can { CanChangePolicies change.now kept.now }
+    requires before { AreValid kept.now }
+    requires after { AreValid (after_policy_change change.now kept.now) }
+    ensures { IfOk result (λ made. made ≡ policy_change_of (touched_kind change.now) (touched_number change.now kept.now)
+        (at (policies (touched_kind change.now) kept.now) (touched_number change.now kept.now))
+        (at (policies (touched_kind change.now) (after_policy_change change.now kept.now)) (touched_number change.now kept.now))) }
+{
+    let (kind, number) = touched(kept, change);
+    let before = policy_before(kept, kind, number)?;
+    let after = policy_after(kept, change)?;
+    change_at(alloc, kind, number, before, after)
+}
+
+// One change alone.
+fn one_change(alloc: Global, change: Change) -> Result<Changes, AllocError>
+    ensures { IfOk result (λ changes. changes ≡ change ∷ []) }
+{
+    let mut changes = Vec::new(alloc);
+    changes.push(change)?;
+    Ok(Changes::of(changes))
 }
 
 /// The change of the row that a change of the policies touches. The policies are those of a valid state, before and after. An Err is
@@ -164,12 +208,8 @@ pub fn policy_changes(
     requires after { AreValid (after_policy_change change.now kept.now) }
     ensures { IfOk result (λ changes. (f : Format) (s t : State) → tables_of s ≡ kept.now → tables_of t ≡ after_policy_change change.now kept.now → Covers f 7 10 s t changes) }
 {
-    let (kind, number) = touched(kept, change);
-    let before = policy_before(kept, kind, number)?;
-    let after = policy_after(kept, change)?;
-    let mut changes = Vec::new(alloc);
-    changes.push(change_at(alloc, kind, number, before, after)?)?;
-    Ok(Changes::of(changes))
+    let made = touched_change(alloc, kept, change)?;
+    one_change(alloc, made)
 }
 
 // A policy that loses an `@` name on one hand, if it is there.

@@ -1,8 +1,6 @@
 use Rattle.std.proofs.Common.{◌≡◌, Option, Some, None, sym, ◌∙◌, ap, subst}
 use Rattle.std.proofs.lemmas.Result.{IfOk-weaker}
-use Rattle.std.specs.Option.{option_map}
 use Rattle.ctrl_model.specs.Numbered.{at}
-use Rattle.ctrl_model.specs.PolicyCommands.{replaced_by}
 use Rattle.ctrl_model.specs.State.{Policy}
 use Rattle.policy_store.specs.declared.changes.PolicyChange.{PolicyChange}
 use Rattle.policy_store.specs.PolicyChanges.{CanChangePolicies, after_policy_change}
@@ -21,12 +19,12 @@ returns-in_ok-copy_policy-in-Add c =
     subst (Touched p (Some c.in_ok-copy_policy-in-Add.field-0)) (sym c.in-Add.is)
     (ap Some c.in_ok-copy_policy-in-Add.ensures ∙ added_at c.in-Add.kind c.in-Add.policy p (subst (λ (d : PolicyChange). CanChangePolicies d p) c.in-Add.is c.requires) c.next-next.ensures.numbers)
 
-pub returns-in_ok-policy_before-in-Replace : goal.returns-in_ok-policy_before-in-Replace
-returns-in_ok-policy_before-in-Replace c =
+pub returns-in-Replace : goal.returns-in-Replace
+returns-in-Replace c =
     let p = c.args.kept.now in
     IfOk-weaker c.with_parts.result _ _ (λ o is.
     subst (Touched p o) (sym c.in-Replace.is)
-    (is ∙ ap (option_map (replaced_by c.in-Replace.policy)) c.in_ok-policy_before-in-Replace.ensures ∙ replaced_at c.in-Replace.kind c.in-Replace.number c.in-Replace.policy p (subst (λ (d : PolicyChange). CanChangePolicies d p) c.in-Replace.is c.requires).0)) c.with_parts.ensures
+    (is ∙ replaced_at c.in-Replace.kind c.in-Replace.number c.in-Replace.policy p (subst (λ (d : PolicyChange). CanChangePolicies d p) c.in-Replace.is c.requires).0)) c.with_parts.ensures
 
 pub returns-in-Remove : goal.returns-in-Remove
 returns-in-Remove c =
