@@ -39,7 +39,7 @@ fn plain_ask(alloc: Global, identity: u32, service: u32) -> Result<Ask, AllocErr
 fn granting(alloc: Global, identity: u32, service: u32) -> Result<Counted, AllocError>
     ensures { IfOk result (λ c. (count_of c identity service == 0) ≡ false) }
 {
-    let mut counted = Counted::new(alloc)?;
+    let mut counted = Counted::new(alloc);
     counted.raise(identity, service)?;
     Ok(counted)
 }

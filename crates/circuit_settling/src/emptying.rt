@@ -29,7 +29,7 @@ fn empties(after: &CountedAfter, pairs: &Counted, step: &Delta) -> bool
 fn emptied(alloc: Global, after: &CountedAfter, steps: &[Delta]) -> Result<Counted, AllocError>
     ensures { IfOk result (TellEmptied steps.now (count_after after.now)) }
 {
-    let mut pairs = Counted::new(alloc)?;
+    let mut pairs = Counted::new(alloc);
     'steps: for step in steps {
         if empties(after, &pairs, step) {
             pairs.raise(step.a, step.b)?;

@@ -13,7 +13,7 @@ pub fn tally_in(alloc: Global, granted: &NumberedTable<Circuit>) -> Result<Count
     requires { length granted.now.rows ≤ limit kind.Circuit }
     ensures { IfOk result (λ c. (n : ℕ) → count_of c n 0 ≡ count_by (λ row. row.1.terminator == n) granted.now.rows) }
 {
-    let mut ends = Counted::new(alloc)?;
+    let mut ends = Counted::new(alloc);
     'circuits: for (_, circuit) in granted.rows() {
         ends.raise(circuit.terminator.0, 0)?;
     }

@@ -50,12 +50,12 @@ impl Model for Circuits {
 
 impl Circuits {
     /// A store without circuits. The first gets the number 1.
-    pub fn new(alloc: Global) -> Result<Circuits, AllocError>
-        ensures { IfOk result (λ c. c ≡ no_circuits) }
+    pub fn new(alloc: Global) -> Circuits
+        ensures { result ≡ no_circuits }
     {
-        Ok(Circuits {
+        Circuits {
             granted: NumberedTable::new(alloc),
-        })
+        }
     }
 
     /// Whether no circuit can be added: as many are present as may be, or their numbers have run out (docs/RULES.md, "Circuits").

@@ -2,7 +2,11 @@ ghost use Rattle.std.specs.Prelude.{◌≡◌, Some, IfOk, option_map};
 ghost use Rattle.core_stores.specs.declared.changes.Change.TheVariants as change;
 ghost use Rattle.entity_store.specs.declared.changes.EntityChange.TheVariants as entity;
 ghost use Rattle.policy_store.specs.declared.changes.PolicyChange.TheVariants as policy;
-ghost use Rattle.core_stores.specs.SaidRecords.{policy_in};
+ghost use Rattle.ctrl_model.specs.declared.kinds.Kind.TheVariants as kinds;
+ghost use Rattle.circuits.specs.declared.changes.CircuitChange.TheVariants as circuit;
+ghost use Rattle.fabric_graph.specs.declared.changes.LinkChange.TheVariants as link;
+ghost use Rattle.terminators.specs.declared.changes.TermChange.TheVariants as term;
+ghost use Rattle.core_stores.specs.SaidRecords.{circuit_in, link_in, policy_in, term_in};
 ghost use Rattle.core_stores.specs.NewRecords.{new_in};
 
 use crate::changes::Change;
@@ -66,6 +70,30 @@ fn new_policy(kind: Kind, number: u32, row: &Row) -> Result<Option<NewRecord>, A
     Ok(new_of(kind, number, change))
 }
 
+// The link that a row says.
+fn new_link(number: u32, row: &Row) -> Result<Option<NewRecord>, AllocError>
+    ensures { IfOk result (λ o. o ≡ option_map (λ l. record { kind = kinds.Link; number = number; change = change.Link (link.Add l) }) (link_in row.now)) }
+{
+    let change = link_in(row)?.map(|link| Change::Link(LinkChange::Add(link)));
+    Ok(new_of(Kind::Link, number, change))
+}
+
+// The terminator that a row says.
+fn new_term(number: u32, row: &Row) -> Result<Option<NewRecord>, AllocError>
+    ensures { IfOk result (λ o. o ≡ option_map (λ t. record { kind = kinds.Terminator; number = number; change = change.Terminator (term.Add t) }) (term_in row.now)) }
+{
+    let change = term_in(row)?.map(|term| Change::Terminator(TermChange::Add(term)));
+    Ok(new_of(Kind::Terminator, number, change))
+}
+
+// The circuit that a row says.
+fn new_circuit(number: u32, row: &Row) -> Result<Option<NewRecord>, AllocError>
+    ensures { IfOk result (λ o. o ≡ option_map (λ c. record { kind = kinds.Circuit; number = number; change = change.Circuit (circuit.Add c) }) (circuit_in row.now)) }
+{
+    let change = circuit_in(row)?.map(|circuit| Change::Circuit(CircuitChange::Add(circuit)));
+    Ok(new_of(Kind::Circuit, number, change))
+}
+
 /// The record that a row says, if one change adds it. None is a router, which takes two, and a row that says no record. An `Err` is want
 /// of memory.
 pub fn new_in(row: &Row) -> Result<Option<NewRecord>, AllocError>
@@ -82,25 +110,14 @@ pub fn new_in(row: &Row) -> Result<Option<NewRecord>, AllocError>
             name,
             attributes,
         } => new_plain(Kind::Service, no.0, name, attributes),
-        Row::Link { no, .. } => {
-            let change = link_in(row)?.map(|link| Change::Link(LinkChange::Add(link)));
-            Ok(new_of(Kind::Link, no.0, change))
-        }
+        Row::Link { no, .. } => new_link(no.0, row),
         Row::ServicePolicy { no, .. } => new_policy(Kind::ServicePolicy, no.0, row),
         Row::EdgeRouterPolicy { no, .. } => new_policy(Kind::EdgeRouterPolicy, no.0, row),
         Row::ServiceEdgeRouterPolicy { no, .. } => {
             new_policy(Kind::ServiceEdgeRouterPolicy, no.0, row)
         }
-        Row::Terminator { no, .. } => {
-            let change = term_in(row)?.map(|term| Change::Terminator(TermChange::Add(term)));
-            Ok(new_of(Kind::Terminator, no.0, change))
-        }
-        Row::Circuit { no, .. } => {
-            let change = circuit_in(row)?.map(|circuit| Change::Circuit(CircuitChange::Add(
-                circuit,
-            )));
-            Ok(new_of(Kind::Circuit, no.0, change))
-        }
+        Row::Terminator { no, .. } => new_term(no.0, row),
+        Row::Circuit { no, .. } => new_circuit(no.0, row),
         _ => Ok(None),
     }
 }

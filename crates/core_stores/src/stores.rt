@@ -40,15 +40,15 @@ pub struct Stores {
 
 impl Grants {
     /// Counts of no pair.
-    pub fn new(alloc: Global) -> Result<Grants, AllocError>
-        ensures { IfOk result (λ g. g ≡ record { dial = []; bind = []; identity_router = []; service_router = [] }) }
+    pub fn new(alloc: Global) -> Grants
+        ensures { result ≡ record { dial = []; bind = []; identity_router = []; service_router = [] } }
     {
-        Ok(Grants {
-            dial: Counted::new(alloc)?,
-            bind: Counted::new(alloc)?,
-            identity_router: Counted::new(alloc)?,
-            service_router: Counted::new(alloc)?,
-        })
+        Grants {
+            dial: Counted::new(alloc),
+            bind: Counted::new(alloc),
+            identity_router: Counted::new(alloc),
+            service_router: Counted::new(alloc),
+        }
     }
 
     /// The counts of a relation.
@@ -64,58 +64,18 @@ impl Grants {
     }
 }
 
-/// The stores of entities and of policies, while the others are made.
-#[derive(Drop)]
-struct Named {
-    entities: Entities,
-    policies: Policies,
-}
-
-/// The stores of the network, while the others are made.
-#[derive(Drop)]
-struct Numbered {
-    fabric: Fabric,
-    terminators: Terminators,
-    circuits: Circuits,
-}
-
-impl Named {
-    // Entities and policies without records.
-    fn new(alloc: Global) -> Result<Named, AllocError>
-        ensures { IfOk result (λ t. t ≡ record { entities = no_entities; policies = no_policies }) }
-    {
-        Ok(Named {
-            entities: Entities::new(alloc)?,
-            policies: Policies::new(alloc)?,
-        })
-    }
-}
-
-impl Numbered {
-    // A network without links, terminators and circuits.
-    fn new(alloc: Global) -> Result<Numbered, AllocError>
-        ensures { IfOk result (λ n. n ≡ record { fabric = no_links; terminators = no_terminators; circuits = no_circuits }) }
-    {
-        Ok(Numbered {
-            fabric: Fabric::new(alloc)?,
-            terminators: Terminators::new(alloc)?,
-            circuits: Circuits::new(alloc)?,
-        })
-    }
-}
-
-// The stores of the entities and policies, of the network, of the grant counts and of the intercepts, at the first serial.
-fn joined(named: Named, numbered: Numbered, grants: Grants, intercepts: Intercepts) -> Stores
-    ensures { result ≡ record { entities = named.entities; policies = named.policies; fabric = numbered.fabric; terminators = numbered.terminators; circuits = numbered.circuits; grants = grants; intercepts = intercepts; serial = 0 } }
+// Stores without records but for those of the entities, at the first serial.
+fn beside(alloc: Global, entities: Entities) -> Stores
+    ensures { result ≡ record { entities = entities; policies = no_policies; fabric = no_links; terminators = no_terminators; circuits = no_circuits; grants = record { dial = []; bind = []; identity_router = []; service_router = [] }; intercepts = []; serial = 0 } }
 {
     Stores {
-        entities: named.entities,
-        policies: named.policies,
-        fabric: numbered.fabric,
-        terminators: numbered.terminators,
-        circuits: numbered.circuits,
-        grants,
-        intercepts,
+        entities,
+        policies: Policies::new(alloc),
+        fabric: Fabric::new(alloc),
+        terminators: Terminators::new(alloc),
+        circuits: Circuits::new(alloc),
+        grants: Grants::new(alloc),
+        intercepts: Intercepts::new(alloc),
         serial: 0,
     }
 }
@@ -125,9 +85,7 @@ impl Stores {
     pub fn new(alloc: Global) -> Result<Stores, AllocError>
         ensures { IfOk result (λ st. st ≡ record { entities = no_entities; policies = no_policies; fabric = no_links; terminators = no_terminators; circuits = no_circuits; grants = record { dial = []; bind = []; identity_router = []; service_router = [] }; intercepts = []; serial = 0 }) }
     {
-        let grants = Grants::new(alloc)?;
-        let numbered = Numbered::new(alloc)?;
-        let named = Named::new(alloc)?;
-        Ok(joined(named, numbered, grants, Intercepts::new(alloc)))
+        let entities = Entities::new(alloc)?;
+        Ok(beside(alloc, entities))
     }
 }

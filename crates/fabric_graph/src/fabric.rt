@@ -64,13 +64,13 @@ impl Model for Fabric {
 
 impl Fabric {
     /// A fabric without links. The least router cost is 10.
-    pub fn new(alloc: Global) -> Result<Fabric, AllocError>
-        ensures { IfOk result (λ f. f ≡ no_links) }
+    pub fn new(alloc: Global) -> Fabric
+        ensures { result ≡ no_links }
     {
-        Ok(Fabric {
+        Fabric {
             links: NamedTable::new(alloc),
             least: LEAST_AT_FIRST,
-        })
+        }
     }
 
     /// Whether a link of the name may be added between the routers: `Exists` comes exactly where a link has the name, else `Full`

@@ -40,7 +40,7 @@ fn tally(alloc: Global, steps: &[Delta], up: bool) -> Result<Counted, AllocError
     requires { (p q : ℕ) → steps_at up steps.now p q ≤ most_number }
     ensures { IfOk result (λ c. (p q : ℕ) → count_of c p q ≡ steps_at up steps.now p q) }
 {
-    let mut tally = Counted::new(alloc)?;
+    let mut tally = Counted::new(alloc);
     'steps: for step in steps {
         if goes(up, step) {
             tally.raise(step.a, step.b)?;
@@ -56,8 +56,8 @@ impl<'a> CountedAfter<'a> {
     {
         CountedAfter {
             counted,
-            ups: Counted::empty(alloc),
-            downs: Counted::empty(alloc),
+            ups: Counted::new(alloc),
+            downs: Counted::new(alloc),
         }
     }
 

@@ -98,13 +98,13 @@ fn copy_of(counts: &BTreeMap<(u32, u32), u32>) -> Result<BTreeMap<(u32, u32), u3
 }
 
 impl Counted {
-    /// Counts of no pair.
-    pub fn new(alloc: Global) -> Result<Counted, AllocError>
-        ensures { IfOk result (λ c. c ≡ []) }
+    /// Counts of no pair, which takes no memory.
+    pub fn new(alloc: Global) -> Counted
+        ensures { result ≡ [] }
     {
-        Ok(Counted {
+        Counted {
             counts: BTreeMap::new(alloc),
-        })
+        }
     }
 
     /// Raises the count of a pair by one. Where the pair is there it takes no memory and answers Ok.
@@ -154,15 +154,6 @@ impl Counted {
     {
         let column = column_in(&self.counts, alloc, b)?;
         Ok(Numbers::of(column))
-    }
-
-    /// Counts of no pair, which takes no memory.
-    pub fn empty(alloc: Global) -> Counted
-        ensures { result ≡ [] }
-    {
-        Counted {
-            counts: BTreeMap::new(alloc),
-        }
     }
 
     /// Equal counts.

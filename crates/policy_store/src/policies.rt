@@ -89,14 +89,14 @@ impl Policies {
     }
 
     /// A store without policies.
-    pub fn new(alloc: Global) -> Result<Policies, AllocError>
-        ensures { IfOk result (λ p. p ≡ no_policies) }
+    pub fn new(alloc: Global) -> Policies
+        ensures { result ≡ no_policies }
     {
-        Ok(Policies {
+        Policies {
             service_policies: NamedTable::new(alloc),
             edge_router_policies: NamedTable::new(alloc),
             service_edge_router_policies: NamedTable::new(alloc),
-        })
+        }
     }
 
     /// Puts a policy and answers its number: a fresh one under the next number, another in place of the one that has its name,

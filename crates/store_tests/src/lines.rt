@@ -59,7 +59,7 @@ pub(crate) fn join(
 
 /// Links 1 and 2 join the routers 1, 2 and 3.
 pub(crate) fn line(alloc: Global) -> Result<Fabric, Fail> {
-    let mut fabric = Fabric::new(alloc)?;
+    let mut fabric = Fabric::new(alloc);
     join(alloc, &mut fabric, b"l1", 1, 2)?;
     join(alloc, &mut fabric, b"l2", 2, 3)?;
     Ok(fabric)
@@ -67,7 +67,7 @@ pub(crate) fn line(alloc: Global) -> Result<Fabric, Fail> {
 
 /// Service 1 is offered on router 3.
 pub(crate) fn offered(alloc: Global) -> Result<Terminators, Fail> {
-    let mut terminators = Terminators::new(alloc)?;
+    let mut terminators = Terminators::new(alloc);
     terminators.add(Term {
         service: ServiceNo(1),
         router: RouterNo(3),
@@ -81,7 +81,7 @@ pub(crate) fn offered(alloc: Global) -> Result<Terminators, Fail> {
 
 /// The pair of 1 and 1: identity 1 may dial service 1, and both have router 1.
 pub(crate) fn granted(alloc: Global) -> Result<Counted, Fail> {
-    let mut counted = Counted::new(alloc)?;
+    let mut counted = Counted::new(alloc);
     counted.raise(1, 1)?;
     Ok(counted)
 }

@@ -16,7 +16,7 @@ fn lists(rt: &impl Abort, alloc: Global, counted: &Counted) -> Result<(), AllocE
 }
 
 fn three_pairs(alloc: Global) -> Result<Counted, AllocError> {
-    let mut counted = Counted::new(alloc)?;
+    let mut counted = Counted::new(alloc);
     'pairs: for (a, b) in [(2, 5), (2, 6), (3, 5)] {
         if counted.count(a, b) == 0 {
             counted.raise(a, b)?;
@@ -62,7 +62,7 @@ fn put(store: &mut Policies, policy: Policy) -> Result<(), AllocError> {
 
 #[test]
 fn lists_the_numbers_of_policies(rt: HostRuntime) -> Result<(), Fail> {
-    let mut store = Policies::new(rt.alloc())?;
+    let mut store = Policies::new(rt.alloc());
     let name = Name::of(rt.alloc(), b"p")?;
     put(&mut store, policy(rt.alloc(), name))?;
     let numbers = store.numbers(rt.alloc(), Kind::ServicePolicy)?;

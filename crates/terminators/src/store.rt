@@ -75,12 +75,12 @@ fn admissible_in(
 
 impl Terminators {
     /// A store without terminators. The first gets the number 1.
-    pub fn new(alloc: Global) -> Result<Terminators, AllocError>
-        ensures { IfOk result (λ t. t ≡ no_terminators) }
+    pub fn new(alloc: Global) -> Terminators
+        ensures { result ≡ no_terminators }
     {
-        Ok(Terminators {
+        Terminators {
             terms: NumberedTable::new(alloc),
-        })
+        }
     }
 
     /// Whether a terminator may be added, whose instance is lent: `Full` comes exactly where as many as may be are present or their numbers
