@@ -1,4 +1,4 @@
-ghost use Rattle.std.specs.Prelude.{◌≡◌, ◌≤◌, true, if◌then◌else◌, IfOk, None, Some, nat_le, ◌&&◌, length};
+ghost use Rattle.std.specs.Prelude.{◌≡◌, ◌≤◌, true, IfOk, Some, is_some, nat_le, ◌&&◌, length};
 ghost use Rattle.std.specs.Option.{option_map, option_map_or};
 ghost use Rattle.serde_json.specs.Data.{number, string, object, member, no_members, boolean};
 ghost use Rattle.serde_json.specs.View.{view};
@@ -14,7 +14,7 @@ use crate::lists::{
 };
 use crate::refusal_bodies::refusal_value;
 use ctrl_model::{Bytes, CircuitNo, Explanation, Name, Names, Numbers, Reply, Tallies, TermNo};
-use serde_json::{Map, Value, json, put};
+use serde_json::{Map, Value, put};
 use std::alloc::{AllocError, Global};
 
 fn made_value(alloc: Global, number: u32) -> Result<Value, AllocError>
@@ -196,27 +196,27 @@ fn clashes_value(alloc: Global, names: &Names) -> Result<Value, AllocError>
     Ok(Value::Object(members))
 }
 
-// The object of a reply that shows what there is: services, grants, a circuit, counts, what is picked or clashes. None is another
-// reply.
-fn showing_value(alloc: Global, reply: &Reply) -> Result<Option<Value>, AllocError>
-    requires { keeps_limits reply.now ≡ true }
-    ensures value { IfOk result (λ o. option_map view o ≡ (if is_showing reply.now then reply_object reply.now else None)) }
-    ensures few { is_showing reply.now ≡ true → IfOk result (λ _. length (reply_body reply.now) ≤ longest_body) }
+// The object of a reply that shows what there is: services, grants, a circuit, counts, what is picked or clashes.
+fn showing_value(alloc: Global, reply: &Reply) -> Result<Value, AllocError>
+    requires limits { keeps_limits reply.now ≡ true }
+    requires showing { is_showing reply.now ≡ true }
+    ensures value { IfOk result (λ v. Some (view v) ≡ reply_object reply.now) }
+    ensures few { IfOk result (λ _. length (reply_body reply.now) ≤ longest_body) }
 {
-    let value = match reply {
-        Reply::Services { names } => services_value(alloc, names)?,
+    match reply {
+        Reply::Services { names } => services_value(alloc, names),
         Reply::Grants {
             bind,
             dial,
             routers,
-        } => grants_value(alloc, bind, dial, routers)?,
+        } => grants_value(alloc, bind, dial, routers),
         Reply::Shown {
             identity,
             ingress,
             links,
             service,
             terminator,
-        } => shown_value(alloc, identity, ingress, links, service, *terminator)?,
+        } => shown_value(alloc, identity, ingress, links, service, *terminator),
         Reply::Counts {
             circuits,
             grants,
@@ -237,18 +237,42 @@ fn showing_value(alloc: Global, reply: &Reply) -> Result<Option<Value>, AllocErr
                 *routers,
                 *services,
                 *terminators,
-            )?
+            )
         }
         Reply::Picked {
             address,
             low,
             high,
             service,
-        } => picked_value(alloc, address, *low, *high, service)?,
-        Reply::Clashes { names } => clashes_value(alloc, names)?,
-        _ => return Ok(None),
-    };
-    Ok(Some(value))
+        } => picked_value(alloc, address, *low, *high, service),
+        Reply::Clashes { names } => clashes_value(alloc, names),
+        _ => unreachable!(),
+    }
+}
+
+// The object of a reply that has one.
+fn object_value(alloc: Global, reply: &Reply) -> Result<Value, AllocError>
+    requires limits { keeps_limits reply.now ≡ true }
+    requires object { is_some (reply_object reply.now) ≡ true }
+    ensures value { IfOk result (λ v. Some (view v) ≡ reply_object reply.now) }
+    ensures few { IfOk result (λ _. length (reply_body reply.now) ≤ longest_body) }
+{
+    match reply {
+        Reply::Empty => unreachable!(),
+        Reply::Done => Ok(Value::Object(Map::new(alloc))),
+        Reply::Made { no } => made_value(alloc, *no),
+        Reply::Circuit {
+            circuit,
+            ingress,
+            links,
+            terminator,
+            total,
+        } => circuit_value(alloc, *circuit, ingress, links, *terminator, *total),
+        Reply::Explained { ingress, claim } => explained_value(alloc, ingress, claim),
+        Reply::Verified { certified } => verified_value(alloc, *certified),
+        Reply::Refused(refusal) => refusal_value(alloc, refusal),
+        _ => showing_value(alloc, reply),
+    }
 }
 
 /// The object of a reply, if it has one: at most 1,048,576 bytes.
@@ -257,20 +281,8 @@ pub(crate) fn reply_value(alloc: Global, reply: &Reply) -> Result<Option<Value>,
     ensures value { IfOk result (λ o. option_map view o ≡ reply_object reply.now) }
     ensures few { IfOk result (λ _. length (reply_body reply.now) ≤ longest_body) }
 {
-    let value = match reply {
-        Reply::Done => json!(in alloc; {})?,
-        Reply::Made { no } => made_value(alloc, *no)?,
-        Reply::Circuit {
-            circuit,
-            ingress,
-            links,
-            terminator,
-            total,
-        } => circuit_value(alloc, *circuit, ingress, links, *terminator, *total)?,
-        Reply::Explained { ingress, claim } => explained_value(alloc, ingress, claim)?,
-        Reply::Verified { certified } => verified_value(alloc, *certified)?,
-        Reply::Refused(refusal) => refusal_value(alloc, refusal)?,
-        _ => return showing_value(alloc, reply),
-    };
-    Ok(Some(value))
+    match reply {
+        Reply::Empty => Ok(None),
+        _ => Ok(Some(object_value(alloc, reply)?)),
+    }
 }
