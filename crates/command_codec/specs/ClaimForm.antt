@@ -1,4 +1,4 @@
--- The form of a claimed route without its request.
+-- The form of a claimed route without its request. Private contracts alone cite it.
 use Rattle.std.specs.Prelude.{[], ◌∷◌}
 use Rattle.ctrl_model.specs.declared.kinds.Kind.TheVariants as kind
 use Rattle.ctrl_model.specs.declared.refusals.Field.TheVariants as field
