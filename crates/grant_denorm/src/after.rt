@@ -66,6 +66,7 @@ impl<'a> CountedAfter<'a> {
     pub fn set_steps(&mut self, alloc: Global, steps: &[Delta]) -> Result<(), AllocError>
         requires { HaveRoom self.old.before steps.now }
         ensures ok { OnOk result (Taken self.old.before (count_after self.new) steps.now) }
+        ensures before { self.new.before ≡ self.old.before }
         ensures err { OnErr result (self.new ≡ self.old) }
     {
         let ups = tally(alloc, steps, true)?;
