@@ -122,15 +122,6 @@ fn place_at(bytes: &[u8]) -> Option<((&[u8], (u32, Precedence)), &[u8])>
     Some(((instance, (cost, precedence)), rest))
 }
 
-fn three_longs(bytes: &[u8]) -> Option<((u32, (u32, u32)), &[u8])>
-    ensures { option_map (λ x. (x.0, x.1.now)) result ≡ both front_long (both front_long front_long) bytes.now }
-{
-    let (first, rest) = split_long(bytes)?;
-    let (second, rest) = split_long(rest)?;
-    let (third, rest) = split_long(rest)?;
-    Some(((first, (second, third)), rest))
-}
-
 fn host_named(number: u32) -> Option<IdentityNo>
     ensures { option_map (λ h. h.0) result ≡ host_named number }
 {
@@ -147,28 +138,27 @@ pub(crate) fn terminator_at(
 ) -> Option<(u32, (u32, (Option<IdentityNo>, (&[u8], (u32, Precedence)))))>
     ensures { option_map (λ x. (x.0, (x.1.0, (option_map (λ h. h.0) x.1.1.0, (x.1.1.1.0.now, x.1.1.1.1))))) result ≡ alone front_terminator value.now }
 {
-    let ((service, (router, host)), rest) = three_longs(value)?;
-    let Some((place, [])) = place_at(rest) else {
-        return None;
-    };
-    Some((service, (router, (host_named(host), place))))
-}
-
-fn four_longs(bytes: &[u8]) -> Option<((u32, (u32, (u32, u32))), &[u8])>
-    ensures { option_map (λ x. (x.0, x.1.now)) result ≡ both front_long (both front_long (both front_long front_long)) bytes.now }
-{
-    let (first, rest) = split_long(bytes)?;
-    let (others, rest) = three_longs(rest)?;
-    Some(((first, others), rest))
+    let (service, rest) = split_long(value)?;
+    let (router, rest) = split_long(rest)?;
+    let (host, rest) = split_long(rest)?;
+    let (place, end) = place_at(rest)?;
+    match end {
+        [] => Some((service, (router, (host_named(host), place)))),
+        _ => None,
+    }
 }
 
 /// The identity of a circuit, its service, its terminator, its ingress and its links.
 pub(crate) fn circuit_at(value: &[u8]) -> Option<(u32, (u32, (u32, (u32, &[u8]))))>
     ensures { option_map (λ x. (x.0, (x.1.0, (x.1.1.0, (x.1.1.1.0, links_of x.1.1.1.1.now))))) result ≡ alone front_circuit value.now }
 {
-    let ((identity, (service, (terminator, ingress))), rest) = four_longs(value)?;
-    let Some((links, [])) = split_links(rest) else {
-        return None;
-    };
-    Some((identity, (service, (terminator, (ingress, links)))))
+    let (identity, rest) = split_long(value)?;
+    let (service, rest) = split_long(rest)?;
+    let (terminator, rest) = split_long(rest)?;
+    let (ingress, rest) = split_long(rest)?;
+    let (links, end) = split_links(rest)?;
+    match end {
+        [] => Some((identity, (service, (terminator, (ingress, links))))),
+        _ => None,
+    }
 }
