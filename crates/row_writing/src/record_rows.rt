@@ -63,6 +63,21 @@ pub fn row_change(
     change_of(alloc, kind, number, value_before?, value_after?)
 }
 
+// The change of the row of a kind's record at a number.
+fn change_at<R: ChangedRows>(
+    alloc: Global,
+    kind: Kind,
+    records: &R,
+    number: u32,
+) -> Result<Change, AllocError>
+    requires kind { nat_le 1 (kind_number kind) ≡ true }
+    requires rows { R.HaveRows records.now }
+    ensures { IfOk result (λ change. change ≡ change_of kind number (R.values_before records.now number) (R.values_after records.now number)) }
+{
+    let (before, after) = records.rows_at(number)?;
+    row_change(alloc, kind, number, before, after)
+}
+
 // The changes of the rows of a kind's records at some numbers.
 fn changes_at<R: ChangedRows>(
     alloc: Global,
@@ -77,8 +92,7 @@ fn changes_at<R: ChangedRows>(
 {
     let mut changes = Vec::new(alloc);
     'numbers: for number in numbers {
-        let (before, after) = records.rows_at(*number)?;
-        changes.push(row_change(alloc, kind, *number, before, after)?)?;
+        changes.push(change_at(alloc, kind, records, *number)?)?;
     }
     Ok(changes)
 }
