@@ -1,6 +1,9 @@
 -- What the values of a list say, one more at a time, and the texts of a side.
-use Rattle.std.proofs.Common.{◌≡◌, ℕ, ◌+◌, ◌<◌, true, false, cond, List, [], ◌∷◌, ◌++◌, codes, length, get_or, map, take, refl, sym, ap, ap₂, ◌∙◌, append_assoc}
+use Rattle.std.proofs.Common.{◌≡◌, ℕ, ◌+◌, ◌<◌, Bool, true, false, cond, List, [], ◌∷◌, ◌++◌, codes, length, get_or, map, take, refl, sym, ap, ap₂, ◌∙◌, append_assoc}
+use Rattle.std.specs.List.{list_all}
+use Rattle.std.proofs.lemmas.Bool.{false≢true}
 use Rattle.std.proofs.lemmas.List.{map_more, map-append}
+use Rattle.std.proofs.lemmas.List.Folds.{list_all_at}
 use Rattle.serde_json.specs.Data.{array, string}
 use Rattle.serde_json.specs.View.{items_of}
 use Rattle.ctrl_model.specs.declared.kinds.Role.TheVariants as role
@@ -21,6 +24,19 @@ pushed_behind g f start vs ws v xs ys i x same within e here before =
 pub pushed : {V X D : Type 0} (g : V → D) (f : X → D) (vs ws : List V) (v : V) (xs ys : List X) (i : ℕ) (x : X) → ys ≡ xs → i < length ys
     → ws ≡ vs ++ v ∷ [] → g v ≡ f (get_or ys i x) → map g vs ≡ map f (take i xs) → map g ws ≡ map f (take (i + 1) xs)
 pushed g f vs ws v xs ys i x same within e here before = pushed_behind g f [] vs ws v xs ys i x same within e here before
+
+-- an element of a list whose elements all pass a test
+pub each_passes : {X : Type 0} (p : X → Bool) (xs : List X) (i : ℕ) (x : X) → i < length xs → list_all p xs ≡ true → p (get_or xs i x) ≡ true
+each_passes p xs i x within all = by (p (get_or xs i x)) refl
+  where
+    by : (b : Bool) → p (get_or xs i x) ≡ b → p (get_or xs i x) ≡ true
+    by true e = e
+    by false e = absurd (false≢true (sym (list_all_at p xs i x within e) ∙ all))
+
+-- a list of which nothing is asked
+pub none_asked : {X : Type 0} (xs : List X) → list_all (λ _. true) xs ≡ true
+none_asked [] = refl
+none_asked (x ∷ xs) = none_asked xs
 
 marked_ids : (ids : List (List ℕ)) → map (λ n. string n) (map role_spelling (map (λ n. role.Id n) ids)) ≡ map (λ n. string (codes "@" ++ n)) ids
 marked_ids [] = refl

@@ -4,6 +4,7 @@
 mod content_types;
 mod families;
 mod field_values;
+mod item_values;
 mod listing;
 mod putting;
 mod spelling;

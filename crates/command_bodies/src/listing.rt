@@ -7,12 +7,13 @@ ghost use Rattle.command_bodies.specs.WrittenFields.{natural, list_of, value_or_
 ghost use Rattle.command_bodies.specs.WrittenWords.{protocol_words};
 ghost use Rattle.command_bodies.specs.RoleEntries.{role_texts};
 
+use crate::item_values::{ItemValue, list_value};
 use crate::spelling::{address_text, name_text};
 use ctrl_model::{
     Address, Addresses, Name, Names, Numbers, PortRange, PortRanges, Potentials, Reach, Reaches,
     Side,
 };
-use serde_json::{Value, json};
+use serde_json::{Map, Value, put};
 use std::alloc::{AllocError, Global};
 
 fn number_value(number: u32) -> Value
@@ -21,15 +22,24 @@ fn number_value(number: u32) -> Value
     Value::from(number)
 }
 
+impl ItemValue for u32 {
+    ghost use Rattle.std.specs.Prelude.{true};
+    ghost use Rattle.command_bodies.specs.WrittenFields.{natural};
+
+    ghost spelled = { natural };
+
+    ghost fits = { λ _. true };
+
+    fn value(&self, _alloc: Global) -> Result<Value, AllocError> {
+        Ok(number_value(*self))
+    }
+}
+
 // A list of numbers.
 pub(crate) fn numbers_value(alloc: Global, numbers: &Numbers) -> Result<Value, AllocError>
     ensures { IfOk result (λ v. view v ≡ list_of natural numbers.now) }
 {
-    let mut values = Vec::new(alloc);
-    'numbers: for number in numbers.as_slice() {
-        values.push(number_value(*number))?;
-    }
-    Ok(Value::Array(values))
+    list_value(alloc, numbers.as_slice())
 }
 
 fn name_value(alloc: Global, name: &Name) -> Result<Value, AllocError>
@@ -38,15 +48,24 @@ fn name_value(alloc: Global, name: &Name) -> Result<Value, AllocError>
     Value::try_from_str(alloc, name_text(name))
 }
 
+impl ItemValue for Name {
+    ghost use Rattle.std.specs.Prelude.{true};
+    ghost use Rattle.serde_json.specs.Data.{string};
+
+    ghost spelled = { string };
+
+    ghost fits = { λ _. true };
+
+    fn value(&self, alloc: Global) -> Result<Value, AllocError> {
+        name_value(alloc, self)
+    }
+}
+
 // A list of names.
 pub(crate) fn names_value(alloc: Global, names: &Names) -> Result<Value, AllocError>
     ensures { IfOk result (λ v. view v ≡ list_of (λ t. string t) names.now) }
 {
-    let mut values = Vec::new(alloc);
-    'names: for name in names.as_slice() {
-        values.push(name_value(alloc, name)?)?;
-    }
-    Ok(Value::Array(values))
+    list_value(alloc, names.as_slice())
 }
 
 // A name behind its mark.
@@ -111,33 +130,53 @@ fn cost_value(cost: u64) -> Value
     }
 }
 
+impl ItemValue for u64 {
+    ghost use Rattle.std.specs.Prelude.{true};
+    ghost use Rattle.command_bodies.specs.WrittenFields.{value_or_null};
+
+    ghost spelled = { value_or_null };
+
+    ghost fits = { λ _. true };
+
+    fn value(&self, _alloc: Global) -> Result<Value, AllocError> {
+        Ok(cost_value(*self))
+    }
+}
+
 fn costs_value(alloc: Global, costs: &Potentials) -> Result<Value, AllocError>
     ensures { IfOk result (λ v. view v ≡ array (items_of (map value_or_null costs.now))) }
 {
-    let mut values = Vec::new(alloc);
-    'costs: for cost in costs.as_slice() {
-        values.push(cost_value(*cost))?;
-    }
-    Ok(Value::Array(values))
+    list_value(alloc, costs.as_slice())
 }
 
 fn reach_value(alloc: Global, reach: &Reach) -> Result<Value, AllocError>
     ensures { IfOk result (λ v. view v ≡ potential reach.now) }
 {
-    let router = number_value(reach.router.0);
+    let mut members = Map::new(alloc);
+    put(&mut members, alloc, "router", number_value(reach.router.0))?;
     let values = costs_value(alloc, &reach.values)?;
-    json!(in alloc; {"router": router, "values": values})
+    put(&mut members, alloc, "values", values)?;
+    Ok(Value::Object(members))
+}
+
+impl ItemValue for Reach {
+    ghost use Rattle.std.specs.Prelude.{true};
+    ghost use Rattle.command_bodies.specs.WrittenFields.{potential};
+
+    ghost spelled = { potential };
+
+    ghost fits = { λ _. true };
+
+    fn value(&self, alloc: Global) -> Result<Value, AllocError> {
+        reach_value(alloc, self)
+    }
 }
 
 // A list of potentials.
 pub(crate) fn reaches_value(alloc: Global, reaches: &Reaches) -> Result<Value, AllocError>
     ensures { IfOk result (λ v. view v ≡ list_of potential reaches.now) }
 {
-    let mut values = Vec::new(alloc);
-    'reaches: for reach in reaches.as_slice() {
-        values.push(reach_value(alloc, reach)?)?;
-    }
-    Ok(Value::Array(values))
+    list_value(alloc, reaches.as_slice())
 }
 
 // Puts a word at the end of some values, if it is said.
@@ -181,33 +220,53 @@ pub(crate) fn address_value(alloc: Global, address: &Address) -> Result<Value, A
     Value::try_from_str(alloc, address_text(&spelling))
 }
 
+impl ItemValue for Address {
+    ghost use Rattle.serde_json.specs.Data.{string};
+    ghost use Rattle.ctrl_model.specs.AddressForm.{address_text, is_address};
+
+    ghost spelled = { λ a. string (address_text a) };
+
+    ghost fits = { is_address };
+
+    fn value(&self, alloc: Global) -> Result<Value, AllocError> {
+        address_value(alloc, self)
+    }
+}
+
 // A list of addresses.
 pub(crate) fn addresses_value(alloc: Global, addresses: &Addresses) -> Result<Value, AllocError>
     requires { list_all is_address addresses.now ≡ true }
     ensures { IfOk result (λ v. view v ≡ list_of (λ t. string t) (map address_text addresses.now)) }
 {
-    let mut values = Vec::new(alloc);
-    'addresses: for address in addresses.as_slice() {
-        values.push(address_value(alloc, address)?)?;
-    }
-    Ok(Value::Array(values))
+    list_value(alloc, addresses.as_slice())
 }
 
 // A range of ports: the lowest and the highest.
 fn range_value(alloc: Global, range: PortRange) -> Result<Value, AllocError>
     ensures { IfOk result (λ v. view v ≡ two_ports range) }
 {
-    let (low, high) = (u32::from(range.low), u32::from(range.high));
-    json!(in alloc; [low, high])
+    let mut ports = Vec::new(alloc);
+    ports.push(number_value(u32::from(range.low)))?;
+    ports.push(number_value(u32::from(range.high)))?;
+    Ok(Value::Array(ports))
+}
+
+impl ItemValue for PortRange {
+    ghost use Rattle.std.specs.Prelude.{true};
+    ghost use Rattle.command_bodies.specs.WrittenFields.{two_ports};
+
+    ghost spelled = { two_ports };
+
+    ghost fits = { λ _. true };
+
+    fn value(&self, alloc: Global) -> Result<Value, AllocError> {
+        range_value(alloc, *self)
+    }
 }
 
 // A list of ranges of ports.
 pub(crate) fn ranges_value(alloc: Global, ranges: &PortRanges) -> Result<Value, AllocError>
     ensures { IfOk result (λ v. view v ≡ list_of two_ports ranges.now) }
 {
-    let mut values = Vec::new(alloc);
-    'pairs: for range in ranges.as_slice() {
-        values.push(range_value(alloc, *range)?)?;
-    }
-    Ok(Value::Array(values))
+    list_value(alloc, ranges.as_slice())
 }

@@ -1,21 +1,17 @@
-use Rattle.std.proofs.Common.{◌≤◌, length, map, sym, ap, ◌∙◌, arith}
-use Rattle.std.proofs.lemmas.List.{take_all}
+use Rattle.std.proofs.Common.{map, sym, ap, ◌∙◌}
+use Rattle.std.specs.List.{list_all}
+use Rattle.std.proofs.lemmas.Result.{IfOk-weaker}
 use Rattle.std.proofs.lemmas.Simd.{map-map}
-use Rattle.ctrl_model.specs.AddressForm.{address_text}
+use Rattle.ctrl_model.specs.AddressForm.{address_text, is_address}
 use Rattle.serde_json.specs.Data.{array, string}
-use Rattle.serde_json.specs.View.{items_of, view}
-use Rattle.serde_json.proofs.Views.{view-Array}
-use Rattle.command_bodies.proofs.ListedValues.{pushed}
+use Rattle.serde_json.specs.View.{items_of}
 use Rattle.command_bodies.proofs.listing.addresses_value.Goals as goal
 
-pub addresses-preserved : goal.addresses-preserved
-addresses-preserved c =
-    pushed view (λ a. string (address_text a)) c.addresses.values.items _ _ c.args.addresses.now c.as_slice-address-items.result.now c.addresses.address-index c.address-item.result c.as_slice-address-items.ensures c.addresses-test.true
-    c.in_ok-push.ensures.items (c.in_ok-address_value.ensures ∙ ap (λ a. string (address_text a)) c.address-item.is) c.addresses.invariant
+pub list_value-requires : goal.list_value-requires
+list_value-requires c = ap (list_all is_address) c.as_slice.ensures ∙ c.requires
 
 pub returns : goal.returns
 returns c =
     let all = c.args.addresses.now in
-    let ended : length all ≤ c.addresses.address-index = omega (arith, ap length c.as_slice-address-items.ensures) in
-    let texts = c.addresses.invariant ∙ ap (map (λ a. string (address_text a))) (take_all c.addresses.address-index all ended) ∙ sym (map-map (λ t. string t) address_text all) in
-    view-Array c.addresses.values ∙ ap (λ ds. array (items_of ds)) texts
+    let texts = ap (map (λ a. string (address_text a))) c.as_slice.ensures ∙ sym (map-map (λ t. string t) address_text all) in
+    IfOk-weaker c.list_value.result _ _ (λ v e. e ∙ ap (λ ds. array (items_of ds)) texts) c.list_value.ensures
