@@ -11,6 +11,7 @@ ghost use Rattle.state_building.specs.JoinedRecords.{claimed, flaw_if, flaw_of, 
 ghost use Rattle.state_building.specs.BuiltStates.{flaw_in, next_in, with_row};
 ghost use Rattle.core_stores.specs.StoredState.{state_of};
 ghost use Rattle.ctrl_core.specs.Changes.{after_change};
+ghost use Rattle.ctrl_core.specs.JoinedRows.{CanJoin};
 ghost use Rattle.ctrl_core.specs.KeptState.{Keeps};
 ghost use Rattle.core_stores.specs.NewRecords.{new_in};
 ghost use Rattle.ctrl_core.specs.NewRecords.{IsNew, is_sound_new, new_flaw_of};
@@ -40,6 +41,22 @@ fn coming(rows: &[Row], row: &Row, kind: Kind, number: u32) -> Coming
     }
 }
 
+// Makes a change that adds a record of a kind, which has no flaw.
+fn made_new(
+    alloc: Global,
+    stores: &mut Stores,
+    kind: Kind,
+    number: u32,
+    change: Change,
+) -> Result<Option<Flaw>, AllocError>
+    requires kept { Keeps stores.old }
+    requires may { CanJoin kind number change (state_of stores.old) }
+    ensures { IfOk result (λ told. Takes told None stores.new (after_change change (skipped kind number (state_of stores.old)))) }
+{
+    make_at(alloc, stores, kind, number, change)?;
+    Ok(None)
+}
+
 // Takes a new record of a kind, which a change adds.
 fn take_new(
     alloc: Global,
@@ -54,12 +71,17 @@ fn take_new(
     ensures { IfOk result (λ told. Takes told (new_flaw_of coming.end coming.number change (state_of stores.old))
         stores.new (after_change change (skipped kind coming.number (state_of stores.old)))) }
 {
-    let flaw = new_flaw(alloc, stores, kind, coming, &change)?;
-    if flaw.is_some() {
-        return Ok(flaw);
+    match new_flaw(alloc, stores, kind, coming, &change) {
+        Ok(None) => made_new(alloc, stores, kind, coming.number, change),
+        Ok(Some(flaw)) => {
+            drop(change);
+            Ok(Some(flaw))
+        }
+        Err(error) => {
+            drop(change);
+            Err(error)
+        }
     }
-    make_at(alloc, stores, kind, coming.number, change)?;
-    Ok(None)
 }
 
 // Takes the record of a row that one change adds.

@@ -1,0 +1,25 @@
+use Rattle.std.proofs.Common.{refl, sym, subst}
+use Rattle.std.proofs.lemmas.Result.{on_ok_weaker}
+use Rattle.core_stores.specs.OpenCircuits.{CountsBut}
+use Rattle.ctrl_core.proofs.LoadChanges.{leaves_loads, loads_carry}
+use Rattle.ctrl_core.proofs.applying.carry_change.Goals as goal
+
+pub apply_change-requires-clause-can : goal.apply_change-requires-clause-can
+apply_change-requires-clause-can c = c.requires.can
+
+pub apply_change-requires-clause-valid : goal.apply_change-requires-clause-valid
+apply_change-requires-clause-valid c = c.requires.valid
+
+pub count_loads-requires : goal.count_loads-requires
+count_loads-requires c =
+    let leaves =
+    leaves_loads _ c.args.change c.args.stores.now c.apply_change.new.stores c.take_out.new.stores c.args.settled refl c.requires.can c.requires.before c.requires.valid c.requires.settled
+    c.requires.held c.requires.loads c.in-Ok.ensures.carried c.in-Ok.ensures.terminators c.take_out.ensures.carried c.take_out.ensures.terminators in
+    record { ends = leaves.ends; but = subst (λ l. CountsBut l c.take_out.new.stores) (sym c.loads_after-loads.ensures) leaves.lack }
+
+pub returns-in-Ok-clause-carried : goal.returns-in-Ok-clause-carried
+returns-in-Ok-clause-carried c =
+    let leaves =
+    leaves_loads _ c.args.change c.args.stores.now c.apply_change.new.stores c.take_out.new.stores c.args.settled refl c.requires.can c.requires.before c.requires.valid c.requires.settled
+    c.requires.held c.requires.loads c.in-Ok.ensures.carried c.in-Ok.ensures.terminators c.take_out.ensures.carried c.take_out.ensures.terminators in
+    on_ok_weaker c.count_loads.result (λ changes. loads_carry c.args.stores.now c.take_out.new.stores c.count_loads.new.stores _ leaves.carried changes) c.count_loads.ensures.changes
