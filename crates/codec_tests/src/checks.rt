@@ -3,18 +3,10 @@
 use frame_lines::{DecodeFault, Decoded};
 use std::alloc::{AllocError, Global};
 use std::process::Abort;
-use std::test::Fail;
 
 /// Bytes are the wanted ones.
 pub(crate) fn are_bytes(rt: &impl Abort, found: &[u8], wanted: &[u8]) {
     assert_eq!(rt; found, wanted);
-}
-
-/// Two stretches of bytes, joined.
-pub(crate) fn joined(alloc: Global, parts: [&[u8]; 2]) -> Result<Vec<u8>, AllocError> {
-    let mut bytes = Vec::from_slice(alloc, parts[0])?;
-    bytes.extend_from_slice(parts[1])?;
-    Ok(bytes)
 }
 
 // What is said of a fault, and nothing where there is none.
@@ -32,7 +24,7 @@ pub(crate) fn is_told(
     told: &Decoded,
     text: &str,
     words: &str,
-) -> Result<(), Fail> {
+) -> Result<(), AllocError> {
     are_bytes(rt, told.text.as_slice(), text.as_bytes());
     let found = words_of(alloc, told.fault)?;
     are_bytes(rt, found.as_bytes(), words.as_bytes());

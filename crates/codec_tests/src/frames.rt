@@ -21,8 +21,8 @@ fn frame_of(alloc: Global, bytes: &[u8]) -> Option<Frame>
 
 #[test]
 fn a_frame_is_read_and_spelled_again(rt: HostRuntime) -> Result<(), Fail> {
-    let reply = frame_of(rt.alloc(), &REPLY).ok_or("the bytes are a reply")?;
+    let reply = frame_of(rt.alloc(), REPLY).ok_or("the bytes are a reply")?;
     let again = encode(rt.alloc(), &reply)?;
-    are_bytes(&rt, again.as_slice(), &REPLY);
+    are_bytes(&rt, again.as_slice(), REPLY);
     Ok(())
 }

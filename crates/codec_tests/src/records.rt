@@ -1,100 +1,88 @@
 //! Records told as lines, and one of them alone. The run of `zitilook` shows what a dump says.
 
 use crate::checks::are_bytes;
-use ctrl_model::{
-    IdentityNo, Instance, Kind, Name, Names, Precedence, RouterNo, ServiceNo, TermNo,
-};
+use ctrl_model::{Format, Kind};
 use record_lines::{Listed, list, show};
 use row_codec::Row;
-use std::alloc::Global;
+use row_reading::read_row;
+use std::alloc::{AllocError, Global};
 use std::process::Abort;
 use std::test::Fail;
 
-fn name(alloc: Global, text: &str) -> Result<Name, Fail> {
-    let name = Name::of(alloc, text.as_bytes());
-    Ok(name.ok().ok_or("the text is a name")?)
+/// The keys and the values of rows: the identity ann of number 1, the service web of number 3, and the terminator of web of number 4 that ann hosts on the router of
+/// number 2, which is absent.
+pub(crate) const ROWS: &[(&[u8], &[u8])] = &[
+    (b"\x03\0\0\0\x01", b"\x03ann\0"),
+    (b"\x04\0\0\0\x03", b"\x03web\0"),
+    (
+        b"\x0a\0\0\0\x04",
+        b"\x03\0\0\0\x02\0\0\0\x01\0\0\0\0\0\0\x02",
+    ),
+];
+
+// Puts the row of a key and a value behind the others. What is none is left out, and then the lines differ.
+fn push_row(
+    alloc: Global,
+    rows: &mut Vec<Row>,
+    key: &[u8],
+    value: &[u8],
+) -> Result<(), AllocError> {
+    if let Ok(row) = read_row(alloc, Format::Two, key, value) {
+        rows.push(row)?;
+    }
+    Ok(())
 }
 
-fn ann(alloc: Global) -> Result<Row, Fail> {
-    Ok(Row::Identity {
-        no: IdentityNo(1),
-        name: name(alloc, "ann")?,
-        attributes: Names::of(Vec::new(alloc)),
-    })
+/// Puts the rows of some keys and values.
+pub(crate) fn push_rows(
+    alloc: Global,
+    rows: &mut Vec<Row>,
+    spelled: &[(&[u8], &[u8])],
+) -> Result<(), AllocError> {
+    for (key, value) in spelled {
+        push_row(alloc, rows, key, value)?;
+    }
+    Ok(())
 }
 
-fn web(alloc: Global) -> Result<Row, Fail> {
-    Ok(Row::Service {
-        no: ServiceNo(3),
-        name: name(alloc, "web")?,
-        attributes: Names::of(Vec::new(alloc)),
-    })
-}
+/// The line of the terminator.
+const TERMINATOR: &str = "4 service=web router= instance= cost=0 precedence=default host=ann\n";
 
-// The terminator of web that ann hosts on the router of number 2.
-fn terminator(alloc: Global) -> Result<Row, Fail> {
-    let instance = Instance::of(alloc, b"");
-    Ok(Row::Terminator {
-        no: TermNo(4),
-        service: ServiceNo(3),
-        router: RouterNo(2),
-        host: Some(IdentityNo(1)),
-        instance: instance.ok().ok_or("no bytes are an instance")?,
-        cost: 0,
-        precedence: Precedence::Normal,
-    })
-}
-
-/// An identity, a service and a terminator, whose router is absent.
-pub(crate) fn rows(alloc: Global) -> Result<Vec<Row>, Fail> {
-    let mut rows = Vec::new(alloc);
-    rows.push(ann(alloc)?)?;
-    rows.push(web(alloc)?)?;
-    rows.push(terminator(alloc)?)?;
-    Ok(rows)
-}
+/// A kind, a word that asks for one of it by its name or number, and its line, if there is one.
+const SHOWN: &[(Kind, &str, &str)] = &[
+    (Kind::Identity, "ann", "1 ann\n"),
+    (Kind::Service, "ann", ""),
+    (Kind::Terminator, "4", TERMINATOR),
+    (Kind::Terminator, "04", ""),
+];
 
 // The one of a kind that a word asks for has this line.
 fn is_shown(
     rt: &impl Abort,
     alloc: Global,
+    rows: &[Row],
     kind: Kind,
     word: &str,
     line: &str,
-) -> Result<(), Fail> {
-    let rows = rows(alloc)?;
-    let shown = show(
-        alloc,
-        rows.as_slice(),
-        Listed::Records(kind),
-        word.as_bytes(),
-    )?;
+) -> Result<(), AllocError> {
+    let shown = show(alloc, rows, Listed::Records(kind), word.as_bytes())?;
     are_bytes(rt, shown.as_slice(), line.as_bytes());
     Ok(())
 }
 
-#[test]
-fn records_are_listed(rt: HostRuntime) -> Result<(), Fail> {
-    let alloc = rt.alloc();
-    let rows = rows(alloc)?;
-    let lines = list(alloc, rows.as_slice(), Listed::Records(Kind::Terminator))?;
-    are_bytes(
-        &rt,
-        lines.as_slice(),
-        b"4 service=web router= instance= cost=0 precedence=default host=ann\n",
-    );
+fn are_told(rt: &impl Abort, alloc: Global, rows: &[Row]) -> Result<(), AllocError> {
+    let lines = list(alloc, rows, Listed::Records(Kind::Terminator))?;
+    are_bytes(rt, lines.as_slice(), TERMINATOR.as_bytes());
+    for (kind, word, line) in SHOWN {
+        is_shown(rt, alloc, rows, *kind, word, line)?;
+    }
     Ok(())
 }
 
 #[test]
-fn a_record_is_shown_by_its_name(rt: HostRuntime) -> Result<(), Fail> {
-    is_shown(&rt, rt.alloc(), Kind::Identity, "ann", "1 ann\n")?;
-    is_shown(&rt, rt.alloc(), Kind::Service, "ann", "")
-}
-
-#[test]
-fn a_terminator_is_shown_by_its_number(rt: HostRuntime) -> Result<(), Fail> {
-    let line = "4 service=web router= instance= cost=0 precedence=default host=ann\n";
-    is_shown(&rt, rt.alloc(), Kind::Terminator, "4", line)?;
-    is_shown(&rt, rt.alloc(), Kind::Terminator, "04", "")
+fn records_are_listed_and_shown(rt: HostRuntime) -> Result<(), Fail> {
+    let mut rows = Vec::new(rt.alloc());
+    push_rows(rt.alloc(), &mut rows, ROWS)?;
+    are_told(&rt, rt.alloc(), rows.as_slice())?;
+    Ok(())
 }

@@ -10,15 +10,14 @@ use std::alloc::Global;
 use std::process::Abort;
 use std::test::Fail;
 
-const KEY: [u8; 5] = [5, 0, 0, 0, 1];
-
-const VALUE: [u8; 9] = [2, 114, 49, 1, 1, 97, 44, 1, 3];
-
-// The intercept of the first service: tcp to `*.example.org`, at port 443.
-const INTERCEPT_KEY: [u8; 5] = [16, 0, 0, 0, 1];
-
-const INTERCEPT: [u8; 21] = [
-    1, 1, 13, 42, 46, 101, 120, 97, 109, 112, 108, 101, 46, 111, 114, 103, 1, 187, 1, 187, 1,
+/// A format, and the key and the value of a row in it. The second one is the intercept of the first service: tcp to `*.example.org`, at port 443.
+const ROWS: &[(Format, &[u8], &[u8])] = &[
+    (Format::One, b"\x05\0\0\0\x01", b"\x02r1\x01\x01a,\x01\x03"),
+    (
+        Format::Two,
+        b"\x10\0\0\0\x01",
+        b"\x01\x01\x0d*.example.org\x01\xbb\x01\xbb\x01",
+    ),
 ];
 
 // The row that a key and a value spell in a format.
@@ -47,10 +46,8 @@ fn is_written_again(
 
 #[test]
 fn a_row_is_read_and_written_again(rt: HostRuntime) -> Result<(), Fail> {
-    is_written_again(&rt, rt.alloc(), Format::One, &KEY, &VALUE)
-}
-
-#[test]
-fn an_intercept_is_read_and_written_again(rt: HostRuntime) -> Result<(), Fail> {
-    is_written_again(&rt, rt.alloc(), Format::Two, &INTERCEPT_KEY, &INTERCEPT)
+    for (format, key, value) in ROWS {
+        is_written_again(&rt, rt.alloc(), *format, key, value)?;
+    }
+    Ok(())
 }
