@@ -11,6 +11,7 @@ pub mod ValueLaws
 pub mod SettledLaws
 pub mod PartLaws
 pub mod ReachLaws
+pub mod RouterNumbers
 pub mod GrantLaws
 pub mod BestClaimLaws
 pub mod PresentLaws
