@@ -125,14 +125,27 @@ impl Kept {
         ensures remembers { Remembers (D.stopped desk.old) (D.stopped desk.new) }
         ensures room { HoldsRoom D.tells store.bounds.slot D.seen D.stopped desk.old desk.new }
     {
-        let core = core_of(alloc, &store)?;
-        let mut store = store;
-        turn(&mut store, desk)?;
-        Ok(Kept {
-            core,
-            store,
-            spent: false,
-        })
+        match core_of(alloc, &store) {
+            Err(fault) => {
+                drop(store);
+                Err(fault)
+            }
+            Ok(core) => {
+                let mut store = store;
+                match turn(&mut store, desk) {
+                    Err(fault) => {
+                        drop(core);
+                        drop(store);
+                        Err(fault)
+                    }
+                    Ok(()) => Ok(Kept {
+                        core,
+                        store,
+                        spent: false,
+                    }),
+                }
+            }
+        }
     }
 
     /// Answers a command that some body spells, whoever sends it, and keeps what it changes in the folder before it answers.
@@ -206,6 +219,8 @@ impl Kept {
         ensures store { result ≡ self.stored }
         ensures able { self.spent ≡ false → (result.opened ≡ true) × (result.spent ≡ false) }
     {
-        self.store
+        let Kept { core, store, .. } = self;
+        drop(core);
+        store
     }
 }
