@@ -147,15 +147,6 @@ fn ends_of(
     Ok(Ends { entries, exits })
 }
 
-// A search of the links, of which no place was searched.
-fn search_of(alloc: Global, view: &View) -> Result<CostSearch, AllocError>
-    requires { AreRouters view.now.routers.now }
-    ensures { IfOk result (IsSearchOf (network view.now)) }
-{
-    let graph = view.fabric.graph_of(alloc, view.routers)?;
-    CostSearch::over(alloc, graph)
-}
-
 // The least route between ends, if there is one, and the search that found it.
 fn found_between(alloc: Global, view: &View, ends: &Ends) -> Result<Option<Found>, AllocError>
     requires routers { AreRouters view.now.routers.now }
@@ -163,7 +154,8 @@ fn found_between(alloc: Global, view: &View, ends: &Ends) -> Result<Option<Found
     ensures search { IfOk result (λ o. IfSome o (λ f. IsSearchOf (network view.now) f.search)) }
     ensures route { IfOk result (λ o. IsFoundFirst (network view.now) ends.now.entries.items ends.now.exits.items (option_map (λ f. f.route) o)) }
 {
-    let mut search = search_of(alloc, view)?;
+    let graph = view.fabric.graph_of(alloc, view.routers)?;
+    let mut search = CostSearch::over(alloc, graph)?;
     match first_route(alloc, view, &mut search, ends)? {
         Some(route) => Ok(Some(Found { route, search })),
         None => Ok(None),

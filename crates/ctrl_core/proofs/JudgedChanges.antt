@@ -52,13 +52,6 @@ use Rattle.circuit_settling.proofs.GrantedCircuits.{granted-before}
 use Rattle.ctrl_core.proofs.SettledChanges.{FallAs}
 use Rattle.ctrl_core.proofs.StateParts.{parts_after, state_then, entities_then, links_then, circuits_then, terms_ordered, links_left, terms_left}
 
--- no circuit is gone or moved yet
-pub circuits_stand : (c : Change) (st : Stores) (o : Option CircuitChange) (moves : List Move) (gone : List ℕ) → o ≡ circuit_part c → moves ≡ [] → gone ≡ []
-    → (with_moves moves (circuits_after o gone st.circuits)).circuits ≡ (circuits_then c st).circuits
-circuits_stand c st o moves gone e stay none =
-    (λ i. (with_moves (stay i) (circuits_after (e i) (none i) st.circuits)).circuits)
-    ∙ moves-none (circuits_after (circuit_part c) [] st.circuits).circuits ∙ sym (gone_none (circuits_then c st).circuits)
-
 -- a list without numbers has none
 pub is_none : (ns : List ℕ) → ns ≡ [] → (length ns == 0) ≡ true
 is_none ns e = eq-eqb (length ns) 0 (ap length e)
@@ -105,6 +98,13 @@ module _ (c : Change) (st : Stores) (g : Fallen) (can : CanSettle st c) (falls :
       nobody Paths none = empty g.circuits none
       nobody (These ns) none = ap (filter (λ n. not (keeps_then c st g can falls_then n))) (empty ns none)
       nobody All none = absurd (false≢true none)
+
+  -- no circuit is gone or moved yet
+  pub circuits_stand : (o : Option CircuitChange) (moves : List Move) (gone : List ℕ) → o ≡ circuit_part c → moves ≡ [] → gone ≡ []
+      → (with_moves moves (circuits_after o gone st.circuits)).circuits ≡ (circuits_then c st).circuits
+  circuits_stand o moves gone e stay none =
+      (λ i. (with_moves (stay i) (circuits_after (e i) (none i) st.circuits)).circuits)
+      ∙ moves-none (circuits_after (circuit_part c) [] st.circuits).circuits ∙ sym (gone_none (circuits_then c st).circuits)
 
   module _ (r : Remaining) (remains : Remains (entities_then c st) r) where
     pub routers_ordered : AreRouters r.routers.items

@@ -1,14 +1,16 @@
 -- The loads of terminators after a change: once they are brought up to date, they are the numbers of the circuits that are open there.
-use Rattle.std.proofs.Common.{◌≡◌, ◌≢◌, ◌⊎◌, ⊎_elim, inl, inr, ℕ, ◌==◌, Bool, true, false, not, cond, ◌&&◌, List, [], ◌∷◌, count_by, is_some, Option, None, Some, unwrap_or, refl, sym, ◌∙◌, ap, subst, arith, eqb-true, eq-eqb}
+use Rattle.std.proofs.Common.{◌≡◌, ◌≢◌, ◌⊎◌, ⊎_elim, inl, inr, ℕ, ◌+◌, ◌<◌, ◌≤◌, ◌==◌, Bool, true, false, not, cond, ◌&&◌, List, [], ◌∷◌, ◌++◌, length, nat_lt, count_by, is_some, Option, None, Some, unwrap_or, refl, sym, ◌∙◌, ap, subst, arith, eqb-true, eq-eqb, ne_eqb, ltb-true}
 use Rattle.std.proofs.lemmas.Bool.{and_parts, false≢true}
-use Rattle.std.proofs.lemmas.List.Sums.{sum_by-append, sum_by-cons}
+use Rattle.std.proofs.lemmas.List.Sums.{count_by-le-length, sum_by-append, sum_by-cons}
+use Rattle.std.proofs.Math.Bool.{not-not}
 use Rattle.std.specs.List.{filter}
 use Rattle.std.specs.Option.{option_map_or}
 use Rattle.ctrl_model.specs.declared.kinds.Kind.TheVariants as kind
+use Rattle.ctrl_model.specs.Limits.{limit, last_next}
 use Rattle.ctrl_model.specs.Matches.{is_nothing}
 use Rattle.ctrl_model.specs.Membership.{Among}
 use Rattle.ctrl_model.specs.Networks.{network_of, open_circuits}
-use Rattle.ctrl_model.specs.Numbered.{Table, at, is_present, numbers, with_last}
+use Rattle.ctrl_model.specs.Numbered.{Table, at, is_present, numbers, with_last, with_new}
 use Rattle.ctrl_model.specs.Settling.{circuit_reaches, settle}
 use Rattle.ctrl_model.specs.State.{State, Terminator, Circuit}
 use Rattle.ctrl_model.specs.ValidState.{ValidState}
@@ -21,6 +23,8 @@ use Rattle.record_tables.proofs.GoneLaws.{filter_all, gone_none}
 use Rattle.circuits.specs.MovedCircuits.{moves_by, ended_by, moved_table}
 use Rattle.circuits.proofs.MoveLaws.{moves-none}
 use Rattle.circuits.specs.CircuitChanges.{after_circuit_change}
+use Rattle.circuits.specs.CircuitTables.{CircuitTables, is_full}
+use Rattle.circuits.specs.declared.changes.CircuitChange.{CircuitChange}
 use Rattle.circuits.specs.declared.changes.CircuitChange.TheVariants as circuit
 use Rattle.circuit_settling.specs.OtherLinks.{way_in}
 use Rattle.fallen_records.proofs.SettledRows.{each_circuit}
@@ -30,6 +34,7 @@ use Rattle.terminators.specs.TermChanges.{after_term_change, without_terms}
 use Rattle.terminators.specs.TermTables.{TermTables, open_at}
 use Rattle.core_stores.specs.declared.changes.Change.{Change}
 use Rattle.core_stores.specs.declared.changes.Change.TheVariants as change
+use Rattle.core_stores.specs.declared.loads.Loads.{Loads}
 use Rattle.core_stores.specs.declared.loads.Loads.TheVariants as loads
 use Rattle.core_stores.specs.declared.settled.Settled.{Settled}
 use Rattle.core_stores.specs.declared.stores.Stores.{Stores}

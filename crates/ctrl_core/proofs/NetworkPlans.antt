@@ -23,7 +23,7 @@ use Rattle.core_stores.specs.SettledNumbers.{without_settled}
 use Rattle.ctrl_core.specs.SettledRecords.{AreSettled}
 use Rattle.core_stores.specs.declared.settled.Settled.{Settled}
 use Rattle.ctrl_core.proofs.StateParts.{without_is_settled}
-use Rattle.ctrl_core.specs.PlannedCommands.{CanPlan, Plans, IsStepped}
+use Rattle.ctrl_core.specs.PlannedCommands.{CanPlan, Plans}
 use Rattle.core_stores.specs.Drafts.{IsShown}
 use Rattle.ctrl_core.proofs.PlanLaws.{no_steps_lead, settled_lead}
 
@@ -84,10 +84,3 @@ pub changed_planned : (made : Plan Change) (c : Change) (steps : GrantSteps) (an
 changed_planned made c steps answered s some leading planned =
     drafted_planned made (record { reply = made.reply; change = Some c; steps = steps }) answered s planned refl (sym some) (λ e. absurd (none-some c (sym e ∙ some)))
     (λ r. subst (λ o. LeadCounts (count r s) (count r (plans.led_by after_change o s)) (steps_of r steps)) (sym some) (settled_lead r s (after_change c s) (steps_of r steps) (leading r)))
-
--- the draft of a plan with the steps of its change, if there is one
-pub stepped_planned : (st : Stores) (reply : Reply) (o : Option Change) (steps : GrantSteps) (answered : Reply × State) → IsStepped st o steps
-    → plans.Plans after_change CanPlan (record { reply = reply; change = o }) answered (state_of st) → Plans (record { reply = reply; change = o; steps = steps }) answered (state_of st)
-stepped_planned st reply None steps answered none planned =
-    shown_planned (record { reply = reply; change = None }) (record { reply = reply; change = None; steps = steps }) answered (state_of st) refl (record { reply_is = refl; change_is = refl; no_steps = none }) planned
-stepped_planned st reply (Some c) steps answered leading planned = changed_planned (record { reply = reply; change = Some c }) c steps answered (state_of st) refl leading planned

@@ -7,7 +7,7 @@ use Rattle.ctrl_model.specs.declared.kinds.Kind.{Kind}
 use Rattle.ctrl_model.specs.declared.kinds.Kind.TheVariants as kind
 use Rattle.ctrl_model.specs.Membership.{Among}
 use Rattle.ctrl_model.specs.Numbered.{at}
-use Rattle.ctrl_model.specs.Settling.{link_stays, terminator_stays, settle, settle_links}
+use Rattle.ctrl_model.specs.Settling.{link_stays, terminator_stays, stays_in, settle, settle_links}
 use Rattle.ctrl_model.specs.State.{State}
 use Rattle.ctrl_model.specs.ValidState.{ValidState}
 use Rattle.record_tables.specs.AfterChange.{changed_by}

@@ -1,6 +1,6 @@
 -- What taking a row leaves: the flaw is told, or the stores keep the state after the row.
-use Rattle.std.proofs.Common.{◌≡◌, ◌⊎◌, inl, inr, ℕ, ◌+◌, ◌<◌, ◌≤◌, Bool, true, false, not, nat_le, nat_lt, List, [], ◌∷◌, ◌++◌, Option, None, Some, is_some, option_map, refl, sym, ◌∙◌, ap, subst, arith}
-use Rattle.std.proofs.lemmas.Bool.{and_from, and_parts, cond-true, false≢true, le-leb}
+use Rattle.std.proofs.Common.{◌≡◌, ◌⊎◌, inl, inr, ℕ, ◌+◌, ◌<◌, ◌≤◌, ◌==◌, Bool, true, false, not, nat_le, nat_lt, List, [], ◌∷◌, ◌++◌, Option, None, Some, is_some, option_map, refl, sym, ◌∙◌, ap, subst, arith, eqb-true}
+use Rattle.std.proofs.lemmas.Bool.{and_from, and_parts, cond-true, eq-eqb, false≢true, le-leb}
 use Rattle.std.proofs.lemmas.Option.{none-some}
 use Rattle.std.specs.List.{last_or}
 use Rattle.ctrl_model.specs.declared.intercepts.Intercept.{Intercept}
@@ -28,7 +28,7 @@ use Rattle.row_codec.specs.declared.rows.Row.TheVariants as row
 use Rattle.row_codec.specs.RowForm.{is_row, is_two}
 use Rattle.row_codec.specs.RowKeys.{is_long}
 use Rattle.state_building.specs.declared.flaws.Flaw.{Flaw}
-use Rattle.state_building.specs.declared.flaws.Flaw.TheVariants.{NoRecord, OutOfOrder}
+use Rattle.state_building.specs.declared.flaws.Flaw.TheVariants.{NoRecord, OutOfOrder, WrongCount}
 use Rattle.state_building.specs.JoinedRecords.{claimed, flaw_if, flaw_of, flaw_of_intercept, flaw_of_serial, is_above_all, is_sound}
 use Rattle.state_building.specs.BuiltStates.{flaw_in, with_row}
 use Rattle.state_building.proofs.ComingRows.{row-valid}

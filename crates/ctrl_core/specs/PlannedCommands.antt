@@ -1,6 +1,5 @@
 -- What the private functions of planning answer. No public contract cites it.
-use Rattle.std.specs.Prelude.{◌≡◌, ⊤, Some, None, false}
-use Rattle.std.specs.declared.option.Option.{Option}
+use Rattle.std.specs.Prelude.{◌≡◌, ⊤, false}
 use Rattle.ctrl_model.specs.declared.replies.Reply.{Reply}
 use Rattle.ctrl_model.specs.State.{State}
 use Rattle.model_laws.specs.Plans.{CanLeadBy, led_by, tells_change}
@@ -8,10 +7,6 @@ use Rattle.circuit_rules.specs.CircuitPlans.{StandsIn}
 use Rattle.core_stores.specs.declared.changes.Change.{Change}
 use Rattle.core_stores.specs.declared.changes.Change.TheVariants as change
 use Rattle.core_stores.specs.declared.changes.Draft.{Draft}
-use Rattle.core_stores.specs.declared.stores.Stores.{Stores}
-use Rattle.core_stores.specs.StoredState.{state_of}
-use Rattle.policy_store.specs.declared.steps.GrantSteps.{GrantSteps}
-use Rattle.policy_store.specs.StepsOfRelations.{HasNoSteps}
 use Rattle.grant_steps.specs.LeadingSteps.{LeadAllCounts}
 use Rattle.ctrl_core.specs.Changes.{CanChange, IsStill, after_change}
 
@@ -23,11 +18,6 @@ Stands _ s = ⊤
 -- What a planned change has of the state: it can be made there, and a circuit that it adds stands there.
 abbrev pub CanPlan : Change → State → Type 0
 CanPlan c s = CanChange c s × Stands c s
-
--- These steps lead the counts of the state of some stores to those after a change, and there are none without one.
-abbrev pub IsStepped : Stores → Option Change → GrantSteps → Type 0
-IsStepped st (Some c) steps = LeadAllCounts (state_of st) (after_change c (state_of st)) steps
-IsStepped st None steps = HasNoSteps steps
 
 -- The plan of an answer: its reply, that it leads to the answer's state, that its steps lead to that state's counts, and that it
 -- changes nothing where its reply tells of no change.

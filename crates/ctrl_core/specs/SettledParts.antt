@@ -1,15 +1,8 @@
 -- What settles after a change of some stores, by its numbers. Only private functions and proofs of this crate cite this file.
-use Rattle.std.specs.Prelude.{◌≡◌, ℕ, List, []}
+use Rattle.std.specs.Prelude.{◌≡◌, ℕ, []}
 use Rattle.ctrl_model.specs.declared.kinds.Relation.{Relation}
 use Rattle.ctrl_model.specs.Grants.{count}
-use Rattle.ctrl_model.specs.Numbered.{numbers}
-use Rattle.ctrl_model.specs.State.{State, Circuit, start}
-use Rattle.circuits.specs.MovedCircuits.{moves_by, ended_by}
-use Rattle.circuit_settling.specs.declared.judging.Judged.{Judged}
-use Rattle.circuit_settling.specs.declared.looking.Look.{Look}
-use Rattle.circuit_settling.specs.declared.staying.Present.{Present}
-use Rattle.circuit_settling.specs.LookedCircuits.{going_by}
-use Rattle.circuit_settling.specs.OtherLinks.{granted_at, keeps_at, way_at}
+use Rattle.ctrl_model.specs.State.{State, start}
 use Rattle.circuit_settling.specs.declared.granting.GrantsAfter.{GrantsAfter}
 use Rattle.circuit_settling.specs.EmptiedPairs.{counts_after}
 use Rattle.fallen_records.specs.declared.falling.Fallen.{Fallen}
@@ -42,9 +35,3 @@ NamesBy (change.Intercept c) s g = Names [] [] [] g
 -- These are the grant counts of a state.
 abbrev pub AreGrantsAfter : State → GrantsAfter → Type 0
 AreGrantsAfter s g = (r : Relation) (a b : ℕ) → counts_after r g a b ≡ count r s a b
-
--- Of some circuits these do not stay as they are, beside what is present and what is granted, and this becomes of them.
-pub record JudgesAmong (present : Present) (grants : GrantsAfter) (look : Look) (pathless : List ℕ) (rows : List (ℕ × Circuit)) (going : List ℕ) (j : Judged) : Type 0 where
-  pub going_are : going ≡ going_by look pathless (numbers rows) (granted_at present grants rows) (keeps_at present grants rows)
-  pub ended_are : j.ended ≡ ended_by (way_at present grants rows) going
-  pub moves_are : j.moves ≡ moves_by (way_at present grants rows) going

@@ -1,4 +1,4 @@
-ghost use Rattle.std.specs.Prelude.{◌≡◌, Some, OnOk};
+ghost use Rattle.std.specs.Prelude.{◌≡◌, OnOk};
 ghost use Rattle.ctrl_model.specs.Settling.{settle};
 ghost use Rattle.ctrl_model.specs.ValidState.{ValidState};
 ghost use Rattle.model_laws.specs.Plans.{CanLeadBy, led_by};
@@ -70,35 +70,6 @@ pub fn apply_change(alloc: Global, stores: &mut Stores, change: Change) -> Resul
     }
 }
 
-// Carries a change out, of which this settles, as `carry_out` says.
-fn carry_change(
-    alloc: Global,
-    stores: &mut Stores,
-    change: Change,
-    settled: Settled,
-) -> Result<(), AllocError>
-    requires can { CanLeadBy CanChange (Some change) (state_of stores.old) }
-    requires before { ValidState (state_of stores.old) }
-    requires valid { ValidState (led_by after_change (Some change) (state_of stores.old)) }
-    requires settled { NamesSettled (Some change) (state_of stores.old) settled }
-    requires held { HoldsPolicies stores.old }
-    requires loads { CountsOpen stores.old }
-    ensures carried { OnOk result (Carries stores.old stores.new (led_by after_change (Some change) (state_of stores.old))) }
-    ensures loads { OnOk result (CountsOpen stores.new) }
-{
-    let loads = loads_after(&change, &settled);
-    match apply_change(alloc, stores, change) {
-        Ok(()) => {
-            take_out(stores, settled);
-            count_loads(alloc, stores, loads)
-        }
-        Err(error) => {
-            drop(settled);
-            Err(error)
-        }
-    }
-}
-
 /// Carries a change out that leads from a valid state to a valid one: it is made, what goes is taken out, the circuits that go on over
 /// other links are moved, and the loads of terminators are brought up to date; what settles is known. Where there is no change the stores
 /// stay. Of a change that fails for want of memory nothing is said.
@@ -117,13 +88,13 @@ pub fn carry_out(
     ensures carried { OnOk result (Carries stores.old stores.new (led_by after_change change (state_of stores.old))) }
     ensures loads { OnOk result (CountsOpen stores.new) }
 {
-    match change {
-        Some(change) => carry_change(alloc, stores, change, settled),
-        None => {
-            drop(settled);
-            Ok(())
-        }
-    }
+    let Some(change) = change else {
+        return Ok(());
+    };
+    let loads = loads_after(&change, &settled);
+    apply_change(alloc, stores, change)?;
+    take_out(stores, settled);
+    count_loads(alloc, stores, loads)
 }
 
 /// Carries a change out that leads from a valid state to a valid one, and takes the steps of the counts, so that the stores are kept as they

@@ -15,7 +15,7 @@ ghost use Rattle.show_commands.specs.ShownCommands.{is_grant_command};
 ghost use Rattle.ctrl_core.specs.Changes.{after_change};
 ghost use Rattle.ctrl_core.specs.KeptState.{Keeps};
 ghost use Rattle.ctrl_core.specs.OtherCommands.{reply_alone};
-ghost use Rattle.ctrl_core.specs.PlannedCommands.{CanPlan, Plans, IsStepped};
+ghost use Rattle.ctrl_core.specs.PlannedCommands.{CanPlan, Plans};
 
 use crate::counting::change_steps;
 use circuit_rules::{Parts, plan_circuit_command};
@@ -28,26 +28,10 @@ use entity_commands::plan_entity_command;
 use intercept_commands::plan_intercept_command;
 use link_commands::plan_link_command;
 use policy_commands::plan_policy_command;
-use policy_store::{GrantSteps, count_all_policies};
+use policy_store::count_all_policies;
 use show_commands::{Shown, shown_by};
 use std::alloc::{AllocError, Global};
 use terminator_commands::plan_terminator_command;
-
-// The steps that the counts take where a change is made, if there is one.
-fn steps_of(
-    alloc: Global,
-    stores: &Stores,
-    change: &Option<Change>,
-) -> Result<GrantSteps, AllocError>
-    requires kept { Keeps stores.now }
-    requires can { CanLeadBy CanPlan change.now (state_of stores.now) }
-    ensures { IfOk result (IsStepped stores.now change.now) }
-{
-    match change {
-        Some(change) => change_steps(alloc, stores, change),
-        None => Ok(GrantSteps::none(alloc)),
-    }
-}
 
 // The draft of a plan: its change, if there is one, with the steps that the counts take.
 fn drafted(
@@ -61,18 +45,15 @@ fn drafted(
     ensures { IfOk result (λ p. (answered : Reply × State) → family.Plans after_change CanPlan (record { reply = reply; change = change }) answered (state_of stores.now)
         → Plans p answered (state_of stores.now)) }
 {
-    match steps_of(alloc, stores, &change) {
-        Ok(steps) => Ok(Draft {
-            reply,
-            change,
-            steps,
-        }),
-        Err(error) => {
-            drop(change);
-            drop(reply);
-            Err(error)
-        }
-    }
+    let Some(change) = change else {
+        return Ok(Draft::shown(alloc, reply));
+    };
+    let steps = change_steps(alloc, stores, &change)?;
+    Ok(Draft {
+        reply,
+        change: Some(change),
+        steps,
+    })
 }
 
 // The reply to a command that belongs to no family.

@@ -65,23 +65,6 @@ fn settled_rows(
     Ok((settled, batch))
 }
 
-// The plan of a draft, of what settles after its change, and of the batch of the rows that differ.
-fn tied(draft: Draft, settled: Settled, batch: Batch) -> Planned
-    ensures reply { result.reply ≡ draft.reply }
-    ensures change { result.change ≡ draft.change }
-    ensures steps { result.steps ≡ draft.steps }
-    ensures settled { result.settled ≡ settled }
-    ensures batch { result.batch ≡ batch }
-{
-    Planned {
-        reply: draft.reply,
-        batch,
-        change: draft.change,
-        settled,
-        steps: draft.steps,
-    }
-}
-
 /// The plan of a draft: with what settles after its change, and the batch of the rows that differ.
 pub fn completed(
     alloc: Global,
@@ -93,11 +76,12 @@ pub fn completed(
     requires granted { IsGranted granted (state_of stores.now) }
     ensures { IfOk result (Completes stores.now draft) }
 {
-    match settled_rows(alloc, stores, &draft, granted) {
-        Ok((settled, batch)) => Ok(tied(draft, settled, batch)),
-        Err(error) => {
-            drop(draft);
-            Err(error)
-        }
-    }
+    let (settled, batch) = settled_rows(alloc, stores, &draft, granted)?;
+    Ok(Planned {
+        reply: draft.reply,
+        batch,
+        change: draft.change,
+        settled,
+        steps: draft.steps,
+    })
 }

@@ -19,14 +19,13 @@ ghost use Rattle.row_loading.specs.RefusedRows.{RefusesRows};
 ghost use Rattle.grant_steps.specs.LeadingSteps.{LeadAllCounts};
 ghost use Rattle.ctrl_core.specs.Changes.{CanChange, CanLead, IsStill, LeadsFrom, NamesSettled, after_change, led};
 ghost use Rattle.ctrl_core.specs.KeptFormat.{kept_format};
-ghost use Rattle.ctrl_core.specs.PlannedCommands.{CanPlan};
 
 use crate::applying::move_stores;
 use crate::commands::plan_command;
 use crate::completing::{completed, settled_after};
 use crate::loading::load;
 use crate::plans::Planned;
-use core_stores::{Change, Draft, Settled, Stores};
+use core_stores::{Change, Settled, Stores};
 use ctrl_model::{Command, Format, Relation, Reply};
 use entity_store::Entities;
 use fabric_graph::Fabric;
@@ -192,18 +191,11 @@ impl Core {
             settled,
             steps,
         } = planned;
-        match self.go_on(change, settled, &steps) {
-            Ok(()) => {
-                if !batch.is_empty() {
-                    self.count_on();
-                }
-                Ok(reply)
-            }
-            Err(error) => {
-                drop(reply);
-                Err(error)
-            }
+        let reply = self.go_on(reply, change, settled, &steps)?;
+        if !batch.is_empty() {
+            self.count_on();
         }
+        Ok(reply)
     }
 
     /// Answers a command that some body spells, and moves the state to the next one, which is not counted. No batch is made. Where memory is
@@ -216,50 +208,11 @@ impl Core {
         ensures valid { ValidState self.old.state }
         ensures err { OnErr result (self.new.live ≡ true → self.new ≡ self.old) }
     {
-        match plan_command(self.alloc, &self.stores, command) {
-            Ok(draft) => self.go_by(draft),
-            Err(error) => Err(error),
-        }
-    }
-
-    // Makes the change of a draft, once it is found what settles after it, and answers the draft's reply. Where memory is wanting the core
-    // stays, or it is given up.
-    fn go_by(&mut self, draft: Draft) -> Result<Reply, AllocError>
-        requires live { self.old.live ≡ true }
-        requires can { CanLeadBy CanPlan draft.change self.old.state }
-        requires valid { ValidState (led_by after_change draft.change self.old.state) }
-        requires counts { LeadAllCounts self.old.state (led_by after_change draft.change self.old.state) draft.steps }
-        ensures gone { IfOk result (λ r. (r ≡ draft.reply) × (self.new ≡ record { state = led_by after_change draft.change self.old.state; live = true })) }
-        ensures err { OnErr result (self.new.live ≡ true → self.new ≡ self.old) }
-    {
+        let draft = plan_command(self.alloc, &self.stores, command)?;
         match settled_after(self.alloc, &self.stores, &draft, self.granted) {
-            Ok(settled) => self.go_settled(draft, settled),
+            Ok(settled) => self.go_on(draft.reply, draft.change, settled, &draft.steps),
             Err(error) => {
                 drop(draft);
-                Err(error)
-            }
-        }
-    }
-
-    // Makes the change of a draft, after which this settles, and answers the draft's reply. After want of memory the core is given up.
-    fn go_settled(&mut self, draft: Draft, settled: Settled) -> Result<Reply, AllocError>
-        requires live { self.old.live ≡ true }
-        requires can { CanLeadBy CanChange draft.change self.old.state }
-        requires valid { ValidState (led_by after_change draft.change self.old.state) }
-        requires settled { NamesSettled draft.change self.old.state settled }
-        requires counts { LeadAllCounts self.old.state (led_by after_change draft.change self.old.state) draft.steps }
-        ensures gone { IfOk result (λ r. (r ≡ draft.reply) × (self.new ≡ record { state = led_by after_change draft.change self.old.state; live = true })) }
-        ensures err { OnErr result (self.new.live ≡ false) }
-    {
-        let Draft {
-            reply,
-            change,
-            steps,
-        } = draft;
-        match self.go_on(change, settled, &steps) {
-            Ok(()) => Ok(reply),
-            Err(error) => {
-                drop(reply);
                 Err(error)
             }
         }
@@ -274,19 +227,21 @@ impl Core {
         self.stores.serial += 1;
     }
 
-    // Makes a change that leads to a valid state, if there is one. After want of memory the core is given up.
+    // Makes a change that leads to a valid state, if there is one, and answers a reply. After want of memory the core is given up.
     fn go_on(
         &mut self,
+        reply: Reply,
         change: Option<Change>,
         settled: Settled,
         steps: &GrantSteps,
-    ) -> Result<(), AllocError>
+    ) -> Result<Reply, AllocError>
         requires live { self.old.live ≡ true }
         requires can { CanLeadBy CanChange change self.old.state }
         requires valid { ValidState (led_by after_change change self.old.state) }
         requires settled { NamesSettled change self.old.state settled }
         requires counts { LeadAllCounts self.old.state (led_by after_change change self.old.state) steps.now }
-        ensures next { OnOk result (self.new ≡ record { state = led_by after_change change self.old.state; live = true }) }
+        ensures reply { IfOk result (λ r. r ≡ reply) }
+        ensures next { IfOk result (λ r. self.new ≡ record { state = led_by after_change change self.old.state; live = true }) }
         ensures was_valid { OnOk result (ValidState self.old.state) }
         ensures same_serial { OnOk result ((led_by after_change change self.old.state).serial ≡ self.old.state.serial) }
         ensures err { OnErr result (self.new.live ≡ false) }
@@ -296,6 +251,6 @@ impl Core {
         self.granted |= change.is_some();
         move_stores(self.alloc, &mut self.stores, change, settled, steps)?;
         self.live = true;
-        Ok(())
+        Ok(reply)
     }
 }

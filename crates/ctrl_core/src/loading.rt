@@ -92,25 +92,6 @@ fn load_into(alloc: Global, stores: &mut Stores, rows: &[Row]) -> Result<(), Cor
     Ok(())
 }
 
-// Stores without records, once rows are loaded into them.
-fn loaded(alloc: Global, mut stores: Stores, rows: &[Row]) -> Result<Stores, CoreFault>
-    requires kept { Keeps stores }
-    requires empty { state_of stores ≡ start }
-    requires loads { AreLoaded rows.now }
-    ensures kept { IfOk result (λ st. KeepState st (state_in rows.now)) }
-    ensures flawless { OnOk result (AreFlawless (next_in rows.now) rows.now start) }
-    ensures counts { OnOk result (HaveCounts rows.now (built rows.now start)) }
-    ensures refused { (place : ℕ) (flaw : Flaw) → IsErrOf result (NotAState place flaw) → AreRefused rows.now place flaw }
-{
-    match load_into(alloc, &mut stores, rows) {
-        Ok(()) => Ok(stores),
-        Err(fault) => {
-            drop(stores);
-            Err(fault)
-        }
-    }
-}
-
 /// The stores of the state that rows build, from empty ones on.
 pub fn load(alloc: Global, rows: &[Row]) -> Result<Stores, CoreFault>
     requires { AreLoaded rows.now }
@@ -119,8 +100,12 @@ pub fn load(alloc: Global, rows: &[Row]) -> Result<Stores, CoreFault>
     ensures counts { OnOk result (HaveCounts rows.now (built rows.now start)) }
     ensures refused { (place : ℕ) (flaw : Flaw) → IsErrOf result (NotAState place flaw) → AreRefused rows.now place flaw }
 {
-    match Stores::new(alloc) {
-        Ok(stores) => loaded(alloc, stores, rows),
-        Err(_error) => Err(CoreFault::NoMemory),
+    let mut stores = Stores::new(alloc)?;
+    match load_into(alloc, &mut stores, rows) {
+        Ok(()) => Ok(stores),
+        Err(fault) => {
+            drop(stores);
+            Err(fault)
+        }
     }
 }

@@ -58,14 +58,8 @@ pub fn link_flaw_in(stores: &Stores, coming: Coming, link: &LinkRow) -> Option<F
     requires sound { coming.sound ≡ is_sound kind.Link link.now }
     ensures { result ≡ flaw_of (λ k. coming.end) kind.Link coming.number link.now (state_of stores.now) }
 {
-    link_flaw(
-        &stores.entities,
-        &stores.fabric,
-        coming,
-        &link.name,
-        link.a,
-        link.b,
-    )
+    let (entities, fabric) = (&stores.entities, &stores.fabric);
+    link_flaw(entities, fabric, coming, &link.name, link.a, link.b)
 }
 
 /// Why a terminator cannot join, if it cannot.
@@ -117,13 +111,8 @@ pub fn policy_flaw(
 fn would_stay(alloc: Global, stores: &Stores, circuit: &Circuit) -> Result<bool, AllocError>
     ensures { IfOk result (λ b. b ≡ stays_in (state_of stores.now) (0, circuit.now)) }
 {
-    stays_here(
-        alloc,
-        &stores.entities,
-        &stores.fabric,
-        &stores.terminators,
-        circuit,
-    )
+    let (entities, fabric, terms) = (&stores.entities, &stores.fabric, &stores.terminators);
+    stays_here(alloc, entities, fabric, terms, circuit)
 }
 
 /// Why a circuit cannot join, if it cannot.

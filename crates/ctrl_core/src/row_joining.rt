@@ -5,45 +5,14 @@ ghost use Rattle.state_building.specs.JoinedRecords.{skipped, joined};
 ghost use Rattle.ctrl_core.specs.Changes.{CanChange, after_change};
 ghost use Rattle.ctrl_core.specs.JoinedRows.{CanJoin, KeepState, MayJoin};
 ghost use Rattle.ctrl_core.specs.KeptState.{Keeps};
-ghost use Rattle.core_stores.specs.declared.settled.Settled.{Settled};
-ghost use Rattle.core_stores.specs.OpenCircuits.{loads_after};
 ghost use Rattle.core_stores.specs.StoredState.{state_of};
-ghost use Rattle.grant_steps.specs.LeadingSteps.{LeadAllCounts};
 
 use crate::applying::apply_change;
 use crate::counting::change_steps;
-use core_stores::{Change, Loads, Settled, Stores, apply_steps, count_loads, loads_after, skip};
+use core_stores::{Change, Settled, Stores, apply_steps, count_loads, loads_after, skip};
 use ctrl_model::{Kind, Name, Names};
 use entity_commands::EntityChange;
-use policy_store::GrantSteps;
 use std::alloc::{AllocError, Global};
-
-// Where loads change by a change after which nothing settles.
-fn loads_unsettled(alloc: Global, change: &Change) -> Loads
-    ensures { (settled : Settled) × (result ≡ loads_after change.now settled) }
-{
-    loads_after(change, &Settled::nothing(alloc))
-}
-
-// Makes a change after which nothing settles, and takes these steps of the counts.
-fn make_by(
-    alloc: Global,
-    stores: &mut Stores,
-    change: Change,
-    steps: &GrantSteps,
-) -> Result<(), AllocError>
-    requires kept { Keeps stores.old }
-    requires can { CanChange change (state_of stores.old) }
-    requires valid { ValidState (after_change change (state_of stores.old)) }
-    requires counts { LeadAllCounts (state_of stores.old) (after_change change (state_of stores.old)) steps.now }
-    ensures { OnOk result (KeepState stores.new (after_change change (state_of stores.old))) }
-{
-    let loads = loads_unsettled(alloc, &change);
-    apply_change(alloc, stores, change)?;
-    count_loads(alloc, stores, loads)?;
-    apply_steps(&mut stores.grants, steps)?;
-    Ok(())
-}
 
 // Makes a change after which nothing settles, and takes the steps of the counts.
 fn make(alloc: Global, stores: &mut Stores, change: Change) -> Result<(), AllocError>
@@ -52,13 +21,12 @@ fn make(alloc: Global, stores: &mut Stores, change: Change) -> Result<(), AllocE
     requires valid { ValidState (after_change change (state_of stores.old)) }
     ensures { OnOk result (KeepState stores.new (after_change change (state_of stores.old))) }
 {
-    match change_steps(alloc, stores, &change) {
-        Ok(steps) => make_by(alloc, stores, change, &steps),
-        Err(error) => {
-            drop(change);
-            Err(error)
-        }
-    }
+    let steps = change_steps(alloc, stores, &change)?;
+    let loads = loads_after(&change, &Settled::nothing(alloc));
+    apply_change(alloc, stores, change)?;
+    count_loads(alloc, stores, loads)?;
+    apply_steps(&mut stores.grants, &steps)?;
+    Ok(())
 }
 
 /// Makes a change that adds a record of a kind under a number.

@@ -1,11 +1,8 @@
-ghost use Rattle.std.specs.Prelude.{◌≡◌, ◌==◌, ◌&&◌, ◌||◌, [], length, None, IfOk};
+ghost use Rattle.std.specs.Prelude.{◌≡◌, ◌==◌, ◌&&◌, ◌||◌, [], length, IfOk};
 ghost use Rattle.record_tables.specs.AfterChange.{changed_by};
 ghost use Rattle.entity_store.specs.EntityChanges.{after_entity_change};
 ghost use Rattle.fallen_records.specs.FallenRecords.{Falls};
-ghost use Rattle.core_stores.specs.ChangeParts.{entity_part, circuit_part};
-ghost use Rattle.core_stores.specs.declared.changes.Change.{Change};
-ghost use Rattle.circuits.specs.CircuitChanges.{after_circuit_change};
-ghost use Rattle.fabric_graph.specs.Routers.{AreRouters, HaveGraph};
+ghost use Rattle.core_stores.specs.ChangeParts.{entity_part};
 ghost use Rattle.policy_store.specs.StepsOfRelations.{takes_nothing};
 ghost use Rattle.circuit_settling.specs.PresentRecords.{Remains};
 ghost use Rattle.grant_steps.specs.LeadingSteps.{LeadAllCounts};
@@ -13,13 +10,13 @@ ghost use Rattle.core_stores.specs.StoredState.{state_of};
 ghost use Rattle.ctrl_core.specs.ChangedStores.{CanSettle, next_state};
 ghost use Rattle.ctrl_core.specs.KeptState.{Keeps, IsGranted};
 ghost use Rattle.ctrl_core.specs.Changes.{after_change};
-ghost use Rattle.ctrl_core.specs.LookedCircuits.{LooksAt, StillGranted};
-ghost use Rattle.ctrl_core.specs.SettledParts.{bare_state_of, NamesBy, AreGrantsAfter, JudgesAmong};
+ghost use Rattle.ctrl_core.specs.LookedCircuits.{LooksAt};
+ghost use Rattle.ctrl_core.specs.SettledParts.{bare_state_of, NamesBy, AreGrantsAfter};
 ghost use Rattle.ctrl_core.specs.PlannedCommands.{Stands};
 ghost use Rattle.ctrl_core.specs.SettledRecords.{AreJudged, AreSettled};
 
 use circuit_settling::{
-    GrantsAfter, Judged, Look, Pairs, Present, Remaining, emptied_pairs, goes_none, going_by,
+    GrantsAfter, Judged, Look, Present, Remaining, emptied_pairs, goes_none, going_by,
     grants_after, has_no_pair, judged, looked_at, remaining_of,
 };
 use circuits::{CircuitsAfter, Moves};
@@ -60,25 +57,6 @@ fn what_remains(alloc: Global, stores: &Stores, change: &Change) -> Result<Remai
     remaining_of(alloc, &entities)
 }
 
-// Which circuits may not stay as they are after a change of no circuit that takes the paths of some, where those stay granted that need
-// none of some pairs.
-fn look_at(
-    alloc: Global,
-    stores: &Stores,
-    pairs: &Pairs,
-    pathless: &Numbers,
-) -> Result<Look, AllocError>
-    ensures { IfOk result (λ look. (change : Change) → circuit_part change ≡ None
-        → StillGranted pairs.now (state_of stores.now) (after_change change (state_of stores.now)) → LooksAt change stores.now pathless.now look) }
-{
-    if has_no_pair(pairs) {
-        return Ok(Look::Paths);
-    }
-    let (circuits, terminators) = (&stores.circuits, &stores.terminators);
-    let looked = looked_at(alloc, circuits, terminators, pairs, pathless)?;
-    Ok(Look::These(looked))
-}
-
 // Which circuits may not stay as they are after a change that takes the paths of some, by the steps of the counts and by the counts after
 // them. Where it is told that what granted each circuit stood before, these are the ones whose path is taken and those that need a pair
 // which is granted no more.
@@ -105,10 +83,13 @@ fn look_by(
     if change.of_circuits().is_some() {
         return Ok(Look::Paths);
     }
-    match emptied_pairs(alloc, after, steps) {
-        Ok(pairs) => look_at(alloc, stores, &pairs, pathless),
-        Err(error) => Err(error),
+    let pairs = emptied_pairs(alloc, after, steps)?;
+    if has_no_pair(&pairs) {
+        return Ok(Look::Paths);
     }
+    let (circuits, terminators) = (&stores.circuits, &stores.terminators);
+    let looked = looked_at(alloc, circuits, terminators, &pairs, pathless)?;
+    Ok(Look::These(looked))
 }
 
 // Whether it is known that what granted each circuit that there was stands: there was none, or no count falls.
@@ -116,49 +97,6 @@ fn stays_granted(stores: &Stores, steps: &GrantSteps, granted: bool) -> bool
     ensures { result ≡ (length stores.now.circuits.circuits.rows == 0 || (granted && takes_nothing steps.now)) }
 {
     stores.circuits.count() == 0 || (granted && steps.takes_nothing())
-}
-
-// Which circuits do not stay as they are beside what is present and what is granted, and what becomes of them.
-fn judged_among(
-    alloc: Global,
-    present: &Present,
-    grants: &GrantsAfter,
-    circuits: &CircuitsAfter,
-    pathless: &Numbers,
-    look: &Look,
-) -> Result<(Numbers, Judged), AllocError>
-    requires routers { AreRouters present.now.routers.now }
-    requires links { HaveGraph present.now.fabric.now }
-    ensures { IfOk result (λ p. JudgesAmong present.now grants.now look.now pathless.now circuits.now.circuits.rows p.0 p.1) }
-{
-    let going = going_by(alloc, circuits, present, grants, pathless, look)?;
-    match judged(alloc, present, grants, circuits, &going) {
-        Ok(judged) => Ok((going, judged)),
-        Err(error) => {
-            drop(going);
-            Err(error)
-        }
-    }
-}
-
-// The same of the circuits that there are after a change.
-fn judged_after(
-    alloc: Global,
-    stores: &Stores,
-    change: &Change,
-    present: &Present,
-    grants: &GrantsAfter,
-    pathless: &Numbers,
-    look: &Look,
-) -> Result<(Numbers, Judged), AllocError>
-    requires routers { AreRouters present.now.routers.now }
-    requires links { HaveGraph present.now.fabric.now }
-    ensures { IfOk result (λ p. JudgesAmong present.now grants.now look.now pathless.now (changed_by after_circuit_change (circuit_part change.now) stores.now.circuits).circuits.rows p.0 p.1) }
-{
-    let none = Numbers::of(Vec::new(alloc));
-    let stay = Moves::of(Vec::new(alloc));
-    let circuits = CircuitsAfter::new(&stores.circuits, change.of_circuits(), &none, &stay);
-    judged_among(alloc, present, grants, &circuits, pathless, look)
 }
 
 // What becomes of the circuits that do not stay as they are, beside what remains and what is granted.
@@ -189,15 +127,12 @@ fn judged_beside(
         routers: remaining.routers.as_slice(),
         fabric: &fabric,
     };
-    judged_after(
-        alloc,
-        stores,
-        change,
-        &present,
-        grants,
-        &fallen.circuits,
-        look,
-    )
+    let none = Numbers::of(Vec::new(alloc));
+    let stay = Moves::of(Vec::new(alloc));
+    let circuits = CircuitsAfter::new(&stores.circuits, change.of_circuits(), &none, &stay);
+    let going = going_by(alloc, &circuits, &present, grants, &fallen.circuits, look)?;
+    let judged = judged(alloc, &present, grants, &circuits, &going)?;
+    Ok((going, judged))
 }
 
 // What falls with a change by which each circuit stays as it is.
@@ -214,114 +149,6 @@ fn without_circuits(alloc: Global, fallen: Fallen) -> Settled
         going: Numbers::of(Vec::new(alloc)),
         ended: Numbers::of(Vec::new(alloc)),
         moves: Moves::of(Vec::new(alloc)),
-    }
-}
-
-// No circuit ends, and none is moved.
-fn none_judged(alloc: Global) -> (Numbers, Judged)
-    ensures going { result.0 ≡ [] }
-    ensures ended { result.1.ended ≡ [] }
-    ensures moves { result.1.moves ≡ [] }
-{
-    let judged = Judged {
-        ended: Numbers::of(Vec::new(alloc)),
-        moves: Moves::of(Vec::new(alloc)),
-    };
-    (Numbers::of(Vec::new(alloc)), judged)
-}
-
-// What becomes of the circuits that are looked at after a change by which these fall.
-fn judged_by(
-    alloc: Global,
-    stores: &Stores,
-    change: &Change,
-    fallen: &Fallen,
-    grants: &GrantsAfter,
-    look: &Look,
-) -> Result<(Numbers, Judged), AllocError>
-    requires can { CanSettle stores.now change.now }
-    requires falls { Falls (after_change change.now (state_of stores.now)) fallen.now.links fallen.now.terminators fallen.now.circuits }
-    requires counts { AreGrantsAfter (after_change change.now (state_of stores.now)) grants.now }
-    requires looks { LooksAt change.now stores.now fallen.now.circuits look.now }
-    requires stands { Stands change.now (state_of stores.now) }
-    ensures { IfOk result (λ p. AreJudged (after_change change.now (state_of stores.now)) p.0 p.1) }
-{
-    if goes_none(look, &fallen.circuits) {
-        return Ok(none_judged(alloc));
-    }
-    let remaining = what_remains(alloc, stores, change)?;
-    judged_beside(alloc, stores, change, fallen, &remaining, grants, look)
-}
-
-// What becomes of the circuits after a change by which these fall, by the counts after it.
-fn judged_looking(
-    alloc: Global,
-    stores: &Stores,
-    change: &Change,
-    steps: &GrantSteps,
-    fallen: &Fallen,
-    grants: &GrantsAfter,
-    granted: bool,
-) -> Result<(Numbers, Judged), AllocError>
-    requires kept { Keeps stores.now }
-    requires can { CanSettle stores.now change.now }
-    requires falls { Falls (after_change change.now (state_of stores.now)) fallen.now.links fallen.now.terminators fallen.now.circuits }
-    requires steps { LeadAllCounts (state_of stores.now) (next_state stores.now change.now) steps.now }
-    requires counts { AreGrantsAfter (after_change change.now (state_of stores.now)) grants.now }
-    requires granted { IsGranted granted (state_of stores.now) }
-    requires stands { Stands change.now (state_of stores.now) }
-    ensures { IfOk result (λ p. AreJudged (after_change change.now (state_of stores.now)) p.0 p.1) }
-{
-    let pathless = &fallen.circuits;
-    let look = look_by(alloc, stores, change, steps, grants, pathless, granted)?;
-    judged_by(alloc, stores, change, fallen, grants, &look)
-}
-
-// What becomes of the circuits after a change by which these fall.
-fn judged_circuits(
-    alloc: Global,
-    stores: &Stores,
-    change: &Change,
-    steps: &GrantSteps,
-    fallen: &Fallen,
-    granted: bool,
-) -> Result<(Numbers, Judged), AllocError>
-    requires kept { Keeps stores.now }
-    requires can { CanSettle stores.now change.now }
-    requires falls { Falls (after_change change.now (state_of stores.now)) fallen.now.links fallen.now.terminators fallen.now.circuits }
-    requires counts { LeadAllCounts (state_of stores.now) (next_state stores.now change.now) steps.now }
-    requires granted { IsGranted granted (state_of stores.now) }
-    requires stands { Stands change.now (state_of stores.now) }
-    ensures { IfOk result (λ p. AreJudged (after_change change.now (state_of stores.now)) p.0 p.1) }
-{
-    let counts = &stores.grants;
-    match grants_after(
-        alloc,
-        &counts.dial,
-        &counts.bind,
-        &counts.identity_router,
-        &counts.service_router,
-        steps,
-    ) {
-        Ok(grants) => judged_looking(alloc, stores, change, steps, fallen, &grants, granted),
-        Err(error) => Err(error),
-    }
-}
-
-// What falls with a change, with what becomes of the circuits.
-fn fallen_and_judged(fallen: Fallen, going: Numbers, judged: Judged) -> Settled
-    ensures links { result.links ≡ fallen.links }
-    ensures terminators { result.terminators ≡ fallen.terminators }
-    ensures going { result.going ≡ going }
-    ensures ended { result.ended ≡ judged.ended }
-    ensures moves { result.moves ≡ judged.moves }
-{
-    Settled {
-        links: fallen.links,
-        terminators: fallen.terminators,
-        going,
-        ended: judged.ended,
-        moves: judged.moves,
     }
 }
 
@@ -342,13 +169,37 @@ fn with_circuits(
     requires stands { Stands change.now (state_of stores.now) }
     ensures { IfOk result (AreSettled (after_change change.now (state_of stores.now))) }
 {
-    match judged_circuits(alloc, stores, change, steps, &fallen, granted) {
-        Ok((going, judged)) => Ok(fallen_and_judged(fallen, going, judged)),
-        Err(error) => {
-            drop(fallen);
-            Err(error)
-        }
+    let grants = grants_after(
+        alloc,
+        &stores.grants.dial,
+        &stores.grants.bind,
+        &stores.grants.identity_router,
+        &stores.grants.service_router,
+        steps,
+    )?;
+    let look = look_by(
+        alloc,
+        stores,
+        change,
+        steps,
+        &grants,
+        &fallen.circuits,
+        granted,
+    )?;
+    if goes_none(&look, &fallen.circuits) {
+        return Ok(without_circuits(alloc, fallen));
     }
+    let remaining = what_remains(alloc, stores, change)?;
+    let (going, judged) = judged_beside(
+        alloc, stores, change, &fallen, &remaining, &grants, &look,
+    )?;
+    Ok(Settled {
+        links: fallen.links,
+        terminators: fallen.terminators,
+        going,
+        ended: judged.ended,
+        moves: judged.moves,
+    })
 }
 
 /// What settling makes of the state after a change, by its numbers. The steps lead the counts to those after the change; a circuit that

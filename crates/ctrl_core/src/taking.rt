@@ -11,7 +11,6 @@ ghost use Rattle.state_building.specs.JoinedRecords.{claimed, flaw_if, flaw_of, 
 ghost use Rattle.state_building.specs.BuiltStates.{flaw_in, next_in, with_row};
 ghost use Rattle.core_stores.specs.StoredState.{state_of};
 ghost use Rattle.ctrl_core.specs.Changes.{after_change};
-ghost use Rattle.ctrl_core.specs.JoinedRows.{CanJoin};
 ghost use Rattle.ctrl_core.specs.KeptState.{Keeps};
 ghost use Rattle.core_stores.specs.NewRecords.{new_in};
 ghost use Rattle.ctrl_core.specs.NewRecords.{IsNew, is_sound_new, new_flaw_of};
@@ -41,22 +40,6 @@ fn coming(rows: &[Row], row: &Row, kind: Kind, number: u32) -> Coming
     }
 }
 
-// Makes a change that adds a record of a kind, which has no flaw.
-fn made_new(
-    alloc: Global,
-    stores: &mut Stores,
-    kind: Kind,
-    number: u32,
-    change: Change,
-) -> Result<Option<Flaw>, AllocError>
-    requires kept { Keeps stores.old }
-    requires may { CanJoin kind number change (state_of stores.old) }
-    ensures { IfOk result (λ told. Takes told None stores.new (after_change change (skipped kind number (state_of stores.old)))) }
-{
-    make_at(alloc, stores, kind, number, change)?;
-    Ok(None)
-}
-
 // Takes a new record of a kind, which a change adds.
 fn take_new(
     alloc: Global,
@@ -72,14 +55,13 @@ fn take_new(
         stores.new (after_change change (skipped kind coming.number (state_of stores.old)))) }
 {
     match new_flaw(alloc, stores, kind, coming, &change) {
-        Ok(None) => made_new(alloc, stores, kind, coming.number, change),
-        Ok(Some(flaw)) => {
-            drop(change);
-            Ok(Some(flaw))
+        Ok(None) => {
+            make_at(alloc, stores, kind, coming.number, change)?;
+            Ok(None)
         }
-        Err(error) => {
+        found => {
             drop(change);
-            Err(error)
+            found
         }
     }
 }

@@ -1,4 +1,4 @@
-use Rattle.std.proofs.Common.{◌≡◌, IfOk, Option, sym, ◌∙◌, ap, subst}
+use Rattle.std.proofs.Common.{Option, sym, ◌∙◌, ap, subst}
 use Rattle.ctrl_model.specs.Controller.{counted}
 use Rattle.ctrl_model.specs.ValidState.{ValidState}
 use Rattle.model_laws.specs.Plans.{CanLeadBy, led_by}
@@ -31,14 +31,6 @@ pub batch_for-requires-clause-counts : goal.batch_for-requires-clause-counts
 batch_for-requires-clause-counts c =
     let s = state_of c.args.stores.now in
     subst (λ (o : Option Change). LeadAllCounts s (led_by after_change o s) c.args.draft.now.steps) c.in-Some.is c.requires.can.counts
-
-pub batch_for-requires-clause-kept : goal.batch_for-requires-clause-kept
-batch_for-requires-clause-kept c = c.requires.can.kept
-
-pub returns-in-Some : goal.returns-in-Some
-returns-in-Some c =
-    let s = state_of c.args.stores.now in
-    subst (λ (o : Option Change). IfOk c.batch_for.result (λ batch. batch ≡ batch_between kept_format s (counted s (led_by after_change o s)))) (sym c.in-Some.is) c.batch_for.ensures
 
 pub returns-in-None : goal.returns-in-None
 returns-in-None c =

@@ -1,7 +1,7 @@
-use Rattle.std.proofs.Common.{refl, ◌∙◌, ap}
+use Rattle.std.proofs.Common.{◌≡◌, refl, ◌∙◌, ap}
 use Rattle.std.proofs.lemmas.Result.{IfOk-weaker}
 use Rattle.std.specs.Option.{option_map}
-use Rattle.core_stores.specs.Claims.{claim_gone}
+use Rattle.core_stores.specs.Claims.{claim_gone, claim_part}
 use Rattle.core_stores.specs.StoredState.{state_of}
 use Rattle.ctrl_core.specs.ChangedStores.{next_state}
 use Rattle.ctrl_core.specs.KeptFormat.{kept_format}

@@ -4,10 +4,10 @@ use Rattle.ctrl_core.proofs.KeptRows.{raised_next, still_next}
 use Rattle.ctrl_core.proofs.core_state.Core.apply.Goals as goal
 use Rattle.ctrl_core.proofs.core_state.Core.apply.Goals.{then-not-is_empty, else-not-is_empty}
 
-pub returns-in-Ok-clause-next : goal.returns-in-Ok-clause-next
-returns-in-Ok-clause-next c =
+pub returns-clause-next : goal.returns-clause-next
+returns-clause-next c =
     let s = c.args.self.now.state in
-    let led = c.in-Ok.ensures in
+    let led = c.in_ok-reply.ensures in
     elim c.if-not-is_empty.branch [
       | then-not-is_empty w ↦
           w.self-is

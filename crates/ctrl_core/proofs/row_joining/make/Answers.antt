@@ -6,7 +6,7 @@ use Rattle.core_stores.specs.StoredState.{state_of}
 use Rattle.core_stores.specs.OpenCircuits.{CountsBut}
 use Rattle.ctrl_core.proofs.LoadChanges.{end_there, loads_carry, loads_lack, unsettled_made}
 use Rattle.ctrl_core.proofs.StepLaws.{keeps_with_steps, room_for_steps}
-use Rattle.ctrl_core.proofs.row_joining.make_by.Goals as goal
+use Rattle.ctrl_core.proofs.row_joining.make.Goals as goal
 
 pub apply_change-requires-clause-valid : goal.apply_change-requires-clause-valid
 apply_change-requires-clause-valid c = let t = after_change c.args.change (state_of c.args.stores.now) in ValidState-settle t (Orderly-from_valid t c.requires.valid)
@@ -23,7 +23,7 @@ count_loads-requires c =
     c.in_ok-apply_change.ensures.carried c.in_ok-apply_change.ensures.terminators in
     record {
       ends = end_there (state_of mid) valid;
-      but = subst (λ l. CountsBut l mid) (sym c.loads_unsettled-loads.ensures.1) (loads_lack c.args.change st mid c.loads_unsettled-loads.ensures.0 c.requires.kept.loads valid (λ e. unsettled));
+      but = subst (λ l. CountsBut l mid) (sym c.loads_after-loads.ensures) (loads_lack c.args.change st mid c.nothing.result c.requires.kept.loads valid (λ e. unsettled));
     }
 
 pub apply_steps-requires : goal.apply_steps-requires
@@ -31,7 +31,7 @@ apply_steps-requires c =
     let st = c.args.stores.now in
     let t = after_change c.args.change (state_of st) in
     let carried = loads_carry st c.apply_change.new.stores c.count_loads.new.stores t c.in_ok-apply_change.ensures.carried c.in_ok-count_loads.ensures.changes in
-    room_for_steps st c.count_loads.new.stores t c.args.steps.now c.requires.kept c.requires.valid c.requires.counts carried.counts
+    room_for_steps st c.count_loads.new.stores t c.in_ok-steps.steps c.requires.kept c.requires.valid c.in_ok-steps.ensures carried.counts
 
 pub returns : goal.returns
 returns c =
@@ -39,6 +39,6 @@ returns c =
     let t = after_change c.args.change (state_of st) in
     let carried = loads_carry st c.apply_change.new.stores c.count_loads.new.stores t c.in_ok-apply_change.ensures.carried c.in_ok-count_loads.ensures.changes in
     record {
-      kept = keeps_with_steps st c.count_loads.new.stores c.apply_steps.new.grants t c.args.steps.now c.requires.kept c.requires.valid c.requires.counts carried c.in_ok-count_loads.ensures.counts c.in_ok-apply_steps.ensures;
+      kept = keeps_with_steps st c.count_loads.new.stores c.apply_steps.new.grants t c.in_ok-steps.steps c.requires.kept c.requires.valid c.in_ok-steps.ensures carried c.in_ok-count_loads.ensures.counts c.in_ok-apply_steps.ensures;
       state_is = carried.next;
     }
