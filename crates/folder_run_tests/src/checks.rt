@@ -1,7 +1,7 @@
 //! Runs on folders over memory, and comparisons, each of which is proved once: an assertion of its own in each test is what makes a proof slow.
 
 use ctrl_serve::{Bounds, Status, run_within};
-use sample_runs::{FIRST, How, Talk, desk_of, parts_of, source_of, words_of};
+use sample_runs::{How, Talk, desk_of, parts_of, source_of};
 use std::alloc::{AllocError, Global};
 use std::process::Abort;
 use ziti_desk::{MemDesk, Room};
@@ -19,6 +19,16 @@ pub(crate) const EMPTY: [&[u8]; 3] = [b"", b"", b""];
 
 /// How a run ends: its status, what is said, and what is noted.
 pub(crate) type Ended<'b> = (Status, &'b [u8], &'b [u8]);
+
+/// A run: what it is, its words, between which there is a comma, how it is bounded, its input, and how it ends.
+#[derive(Clone, Copy)]
+pub(crate) struct Run<'r> {
+    pub(crate) what: &'r str,
+    pub(crate) words: &'r str,
+    pub(crate) how: How,
+    pub(crate) input: &'r [u8],
+    pub(crate) ended: Ended<'r>,
+}
 
 /// In a case bytes are the wanted ones.
 pub(crate) fn are_bytes(rt: &impl Abort, what: &str, found: &[u8], wanted: &[u8]) {
@@ -49,11 +59,6 @@ pub(crate) fn has_parts(rt: &impl Abort, what: &str, desk: &MemDesk, parts: [&[u
     are_bytes(rt, what, mark, parts[2]);
 }
 
-/// In a case the first slot of a desk's folder has these bytes and stands, and the second one has none.
-pub(crate) fn has_slot(rt: &impl Abort, what: &str, desk: &MemDesk, slot: &[u8]) {
-    has_parts(rt, what, desk, [slot, b"", FIRST]);
-}
-
 /// A desk whose folder has these parts, and which fails at these calls, counted from 0.
 pub(crate) fn desk_on(
     alloc: Global,
@@ -63,10 +68,19 @@ pub(crate) fn desk_on(
     desk_of(alloc, ROOM, parts, failing)
 }
 
+// The words of a line, between which there is a comma.
+fn line_of(alloc: Global, words: &str) -> Result<Vec<String>, AllocError> {
+    let mut line = Vec::new(alloc);
+    for word in words.split(',') {
+        line.push(String::from_str(alloc, word)?)?;
+    }
+    Ok(line)
+}
+
 /// Runs words on an input and a desk.
 pub(crate) fn run_words(
     alloc: Global,
-    words: &[&str],
+    words: &str,
     how: How,
     input: &[u8],
     desk: &mut MemDesk,
@@ -76,48 +90,79 @@ pub(crate) fn run_words(
         slot: how.slot.clamp(64, 1_048_576),
         mark: how.mark.clamp(1, 1_024),
     };
-    let line = words_of(alloc, words)?;
+    let line = line_of(alloc, words)?;
     let mut source = source_of(alloc, input, how.piece, &[how.take])?;
     Ok(run_within(alloc, &line, bounds, &mut source, desk))
 }
 
-/// In a case words run so on an input and a folder of these parts, which ends so. Answers the desk.
+// A run on a desk ends so, as does all that was said and noted there.
+fn ends(
+    rt: &impl Abort,
+    alloc: Global,
+    run: &Run<'_>,
+    desk: &mut MemDesk,
+) -> Result<(), AllocError> {
+    let status = run_words(alloc, run.words, run.how, run.input, desk)?;
+    let (wanted, said, noted) = run.ended;
+    is_status(rt, run.what, status, wanted);
+    has_told(rt, run.what, desk, said, noted);
+    Ok(())
+}
+
+/// A run on a folder of these parts ends so. Answers the desk.
 pub(crate) fn ran(
     rt: &impl Abort,
     alloc: Global,
-    what: &str,
-    words: &[&str],
-    how: How,
-    input: &[u8],
+    run: &Run<'_>,
     parts: [&[u8]; 3],
-    ended: Ended<'_>,
 ) -> Result<MemDesk, AllocError> {
     let mut desk = desk_on(alloc, parts, &[])?;
-    let status = run_words(alloc, words, how, input, &mut desk)?;
-    let (wanted, said, noted) = ended;
-    is_status(rt, what, status, wanted);
-    has_told(rt, what, &desk, said, noted);
+    ends(rt, alloc, run, &mut desk)?;
     Ok(desk)
+}
+
+fn leaves_on(
+    rt: &impl Abort,
+    alloc: Global,
+    run: &Run<'_>,
+    desk: &mut MemDesk,
+    behind: [&[u8]; 3],
+) -> Result<u64, AllocError> {
+    ends(rt, alloc, run, desk)?;
+    has_parts(rt, run.what, desk, behind);
+    Ok(desk.moments())
+}
+
+/// A run on a folder of these parts ends so, and leaves one of those behind it. Answers how many moments it had.
+pub(crate) fn leaves(
+    rt: &impl Abort,
+    alloc: Global,
+    run: &Run<'_>,
+    parts: [&[u8]; 3],
+    behind: [&[u8]; 3],
+) -> Result<u64, AllocError> {
+    let mut desk = desk_on(alloc, parts, &[])?;
+    leaves_on(rt, alloc, run, &mut desk, behind)
+}
+
+// The replay of a talk's frames, which are answered as they have to be.
+fn replay_of<'r>(what: &'r str, talk: &'r Talk) -> Run<'r> {
+    Run {
+        what,
+        words: "replay",
+        how: How::AMPLE,
+        input: talk.input(),
+        ended: (Status::Done, talk.wanted(), b""),
+    }
 }
 
 /// Replays the rows of a text on a folder of these parts, which are answered as they have to be. Answers the desk.
 pub(crate) fn answers(
     rt: &impl Abort,
     alloc: Global,
-    how: How,
     parts: [&[u8]; 3],
     text: &str,
 ) -> Result<MemDesk, AllocError> {
     let talk = Talk::of(alloc, text)?;
-    let ended = (Status::Done, talk.wanted(), b"".as_slice());
-    ran(
-        rt,
-        alloc,
-        text,
-        &["replay"],
-        how,
-        talk.input(),
-        parts,
-        ended,
-    )
+    ran(rt, alloc, &replay_of(text, &talk), parts)
 }

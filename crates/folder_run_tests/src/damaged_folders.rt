@@ -1,8 +1,8 @@
 //! Folders with a byte changed, cut off or made up: where they are damaged, and to what the others open.
 
-use crate::checks::{answers, has_slot, holds, ran};
+use crate::checks::{Run, answers, holds, leaves};
 use ctrl_serve::Status;
-use sample_runs::{ANN_KEPT, FIRST, GRANT_KEPT, How, WEB_KEPT, slot_of};
+use sample_runs::{FIRST, How, bytes_of};
 use std::alloc::{AllocError, Global};
 use std::process::Abort;
 use std::test::Fail;
@@ -24,7 +24,7 @@ enum Change {
 /// becomes another one, or a semantic that says nothing of `#all` the other one. Keys that do not rise, as behind a table whose bits
 /// are turned, are no batch, and the next number of services that is put twice is no change. Each record ends in the put of the serial, one
 /// more in each: where the first one's is another number, the second does not raise it.
-const CHANGES: [(Change, [&[u8]; 5]); 3] = [
+const CHANGES: &[(Change, [&[u8]; 5])] = &[
     (
         Change::Rises,
         [
@@ -72,7 +72,7 @@ const OPENED: &str = r#"
 
 // The slot of ann, web and the policy with its count.
 fn whole_slot(alloc: Global) -> Result<Vec<u8>, AllocError> {
-    slot_of(alloc, &[ANN_KEPT, WEB_KEPT, GRANT_KEPT])
+    bytes_of(alloc, r"HEADER+ANN_KEPT+WEB_KEPT+GRANT_KEPT+\0")
 }
 
 fn changed_byte(change: Change, byte: u8) -> u8 {
@@ -118,18 +118,14 @@ fn check_slot(rt: &impl Abort, alloc: Global, slot: &[u8], letter: u8) -> Result
     } else {
         Status::Damaged
     };
-    let ended = (status, b"".as_slice(), noted.as_bytes());
-    let desk = ran(
-        rt,
-        alloc,
-        "byte",
-        &["replay"],
-        How::AMPLE,
-        b"",
-        parts,
-        ended,
-    )?;
-    has_slot(rt, "byte", &desk, slot);
+    let run = Run {
+        what: "byte",
+        words: "replay",
+        how: How::AMPLE,
+        input: b"",
+        ended: (status, b"", noted.as_bytes()),
+    };
+    leaves(rt, alloc, &run, parts, parts)?;
     Ok(())
 }
 
@@ -182,7 +178,7 @@ fn check_changes(
 fn finds_each_changed_byte(rt: HostRuntime) -> Result<(), Fail> {
     let slot = whole_slot(rt.alloc())?;
     for (change, stretches) in CHANGES {
-        check_changes(&rt, rt.alloc(), slot.as_slice(), change, stretches)?;
+        check_changes(&rt, rt.alloc(), slot.as_slice(), *change, *stretches)?;
     }
     Ok(())
 }
@@ -197,7 +193,7 @@ fn check_opened(
 ) -> Result<(), AllocError> {
     let place = place.parse::<usize>().unwrap_or(0);
     let slot = changed(alloc, whole, place, Change::Rises)?;
-    answers(rt, alloc, How::AMPLE, [slot.as_slice(), b"", FIRST], row)?;
+    answers(rt, alloc, [slot.as_slice(), b"", FIRST], row)?;
     Ok(())
 }
 
@@ -213,7 +209,7 @@ fn opens_to_what_other_bytes_say(rt: HostRuntime) -> Result<(), Fail> {
 
 /// The letters of a slot of which so many bytes are left, from none to all: at its start, at a gate that is gone, or whose record is
 /// cut, or at the closed gate, which is gone.
-const CUTS: [(usize, u8); 6] = [
+const CUTS: &[(usize, u8)] = &[
     (8, b'0'),
     (56, b'1'),
     (104, b'2'),
@@ -242,8 +238,8 @@ fn finds_each_cut(rt: HostRuntime) -> Result<(), Fail> {
     let slot = whole_slot(rt.alloc())?;
     let mut first = 0usize;
     for (behind, letter) in CUTS {
-        check_fronts(&rt, rt.alloc(), slot.as_slice(), first, behind, letter)?;
-        first = behind;
+        check_fronts(&rt, rt.alloc(), slot.as_slice(), first, *behind, *letter)?;
+        first = *behind;
     }
     Ok(())
 }

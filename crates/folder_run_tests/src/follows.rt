@@ -1,269 +1,120 @@
-//! Frames that are followed: each case with its reply, runs that end early, and what is shipped of one folder into another.
+//! Frames that are followed, each case with its replies, and what is shipped of one folder into another.
 
-use crate::checks::{EMPTY, are_bytes, desk_on, has_parts, is_status, ran, run_words};
+use crate::checks::{EMPTY, Run, are_bytes, desk_on, has_parts, is_status, leaves, run_words};
 use ctrl_serve::Status;
-use sample_runs::{How, bytes_of, folder_of, notes_of, parts_in, parts_of, push_reply};
+use sample_runs::{How, bytes_of, folder_of, parts_in, push_reply};
 use std::alloc::{AllocError, Global};
 use std::process::Abort;
 use std::test::Fail;
-use ziti_desk::Images;
+use ziti_desk::MemDesk;
 
-/// A frame: its content type, its headers, its body, and the body of its reply. The headers are those of a serial, of a piece's number and of a count of
-/// pieces, or, behind `=`, as they are spelled.
-type Sent = (u32, &'static str, &'static str, &'static str);
+/// Cases: behind `| ` a folder, its bounds and the folder behind the frames; and a line for each frame: its content type (1900 is a Whole, 1901 a Next), its
+/// headers, its body, and the body of its reply. The headers are those of a serial, of a piece's number and of a count of pieces, or, behind `=`, a part.
+const FOLLOWED: &str = r##"
+# No piece of a batch: another content type, a header that is wanting or of another length, a count of none or of too many, a number that is none of
+# so many, and a body of another size.
+| ANN_SLOT - FIRST | - | ANN_SLOT - FIRST
+1902 2 0 1 | BATCH_BOB | {"code":60,"name":"BadShip"}
+1000 2 0 1 | BATCH_BOB | {"code":60,"name":"BadShip"}
+1901 = NO_COUNT | BATCH_BOB | {"code":60,"name":"BadShip"}
+1901 = SHORT_SERIAL | BATCH_BOB | {"code":60,"name":"BadShip"}
+1901 2 0 0 | BATCH_BOB | {"code":60,"name":"BadShip"}
+1901 2 0 1025 | BATCH_BOB | {"code":60,"name":"BadShip"}
+1901 2 1 1 | BATCH_BOB | {"code":60,"name":"BadShip"}
+1901 2 0 2 | BATCH_BOB | {"code":60,"name":"BadShip"}
+1901 2 0 1 | - | {"code":60,"name":"BadShip"}
 
-/// A folder, its bounds, the frames, and the folder behind them.
-type Followed = (&'static str, &'static str, &'static [Sent], &'static str);
+# Of a header that stands twice the last counts.
+| ANN_SLOT - FIRST | - | HEADER+ANN_KEPT+BOB_KEPT+\0 - FIRST
+1901 = COUNT_TWICE | BATCH_BOB | {"own":2,"taken":"Took"}
 
-/// The content types of a Whole and of a Next.
-const WHOLE: u32 = 1900;
+# A piece that goes on with no batch in parts.
+| ANN_SLOT - FIRST | - | ANN_SLOT - FIRST
+1901 2 1 2 | BATCH_BOB | {"code":64,"name":"Skipped"}
+1901 2 0 2 | a*1048576 | {"own":1,"taken":"Piece"}
+1901 3 1 2 | BATCH_BOB | {"code":64,"name":"Skipped"}
+1900 2 1 2 | BATCH_BOB | {"code":64,"name":"Skipped"}
+1902 2 1 2 | BATCH_BOB | {"code":60,"name":"BadShip"}
+1901 2 1 2 | BATCH_BOB | {"code":61,"name":"BadBatch"}
+1901 2 1 2 | BATCH_BOB | {"code":64,"name":"Skipped"}
 
-const NEXT: u32 = 1901;
+# Bytes that are no batch, also of what comes late; and a Whole that is no difference of no rows, or gives another serial.
+| ANN_SLOT - FIRST | - | ANN_SLOT - FIRST
+1901 2 0 1 | \x03 | {"code":61,"name":"BadBatch"}
+1901 1 0 1 | \x03 | {"code":61,"name":"BadBatch"}
+1900 2 0 1 | BATCH_ANN | {"code":61,"name":"BadBatch"}
+1900 1 0 1 | BATCH_GOES | {"code":61,"name":"BadBatch"}
 
-/// The folder that keeps ann alone, and those behind bob and behind both in one record.
-const ANN: &str = "ANN_SLOT - FIRST";
+# What is kept already, what differs from it, and what is kept no more.
+| ANN_SLOT - FIRST | - | ANN_SLOT - FIRST
+1900 1 0 1 | BATCH_ANN | {"own":1,"taken":"Repeat"}
+1900 1 0 1 | BATCH_ANM | {"at":26,"code":62,"name":"Differs","serial":1}
+1900 1 0 1 | BATCH_TAGGED | {"at":19,"code":62,"name":"Differs","serial":1}
+1901 1 0 1 | BATCH_BOB | {"own":1,"taken":"Old"}
+1901 0 0 1 | BATCH_BOB | {"own":1,"taken":"Old"}
+1900 0 0 1 | BATCH_UNCOUNTED | {"own":1,"taken":"Old"}
 
-const ANN_AND_BOB: &str = r"HEADER+ANN_KEPT+BOB_KEPT+\0 - FIRST";
+| ANN_SLOT - FIRST | - | ANN_SLOT - FIRST
+1901 3 0 1 | BATCH_BOB_THIRD | {"code":63,"name":"Ahead","own":1}
 
-const BOTH: &str = "- BOTH_SLOT SECOND";
+| - - - | - | BARE_SLOT - FIRST
+1901 1 0 1 | BATCH_ANN | {"code":63,"name":"Ahead","own":0}
 
-/// The batches of ann and of bob with the serials 1 and 2, and of bob with the serial 3.
-const A: &str =
-    r"\x01\x02\x01\x01\x04\0\0\0\x02\0\0\0\x01\x05\x03\0\0\0\x01\x05\0\0\0\x03ann\0\x01\x01\x11\x08\0\0\0\x01\0\0\0\0\0\0\0";
+# Rows of another serial, of no state, and a put that changes nothing.
+| ANN_SLOT - FIRST | - | ANN_SLOT - FIRST
+1901 2 0 1 | BATCH_BOB_THIRD | {"code":61,"name":"BadBatch"}
 
-const B: &str =
-    r"\x01\x02\x01\x01\x04\0\0\0\x03\0\0\0\x01\x05\x03\0\0\0\x02\x05\0\0\0\x03bob\0\x01\x01\x11\x08\0\0\0\x02\0\0\0\0\0\0\0";
+| ANN_SLOT - FIRST | - | ANN_SLOT - FIRST
+1901 2 0 1 | BATCH_UNNUMBERED | {"code":61,"name":"BadBatch"}
 
-const B_THIRD: &str =
-    r"\x01\x02\x01\x01\x04\0\0\0\x03\0\0\0\x01\x05\x03\0\0\0\x02\x05\0\0\0\x03bob\0\x01\x01\x11\x08\0\0\0\x03\0\0\0\0\0\0\0";
+| ANN_SLOT - FIRST | - | ANN_SLOT - FIRST
+1901 2 0 1 | BATCH_EQUAL | {"code":61,"name":"BadBatch"}
 
-/// Ann's batch with another name, and with an attribute.
-const ANM: &str =
-    r"\x01\x02\x01\x01\x04\0\0\0\x02\0\0\0\x01\x05\x03\0\0\0\x01\x05\0\0\0\x03anm\0\x01\x01\x11\x08\0\0\0\x01\0\0\0\0\0\0\0";
+# No room.
+| ANN_SLOT - FIRST | slot=64 | ANN_SLOT - FIRST
+1901 2 0 1 | BATCH_BOB | {"code":40,"name":"JournalFull"}
 
-const TAGGED: &str =
-    r"\x01\x02\x01\x01\x04\0\0\0\x02\0\0\0\x01\x05\x03\0\0\0\x01\x07\0\0\0\x03ann\x01\x01a\x01\x01\x11\x08\0\0\0\x01\0\0\0\0\0\0\0";
+| ANN_SLOT - FIRST | slot=64 | ANN_SLOT - FIRST
+1900 2 0 1 | BATCH_BOTH | {"code":40,"name":"JournalFull"}
 
-/// Ann's batch without a serial, as behind a migration; one that deletes what is not there; bob without the next number; and one that puts ann as she is.
-const UNCOUNTED: &str =
-    r"\x01\x02\x01\x01\x04\0\0\0\x02\0\0\0\x01\x05\x03\0\0\0\x01\x05\0\0\0\x03ann\0";
+| ANN_SLOT - FIRST | mark=1 | ANN_SLOT - FIRST
+1900 2 0 1 | BATCH_BOTH | {"code":41,"name":"MarkFull"}
 
-const GOES: &str = r"\x02\x05\x03\0\0\0\x09\x01\x01\x11\x08\0\0\0\x01\0\0\0\0\0\0\0";
+# What is taken, in pieces of the input of any size.
+| ANN_SLOT - FIRST | - | HEADER+ANN_KEPT+BOB_KEPT+\0 - FIRST
+1901 2 0 1 | BATCH_BOB | {"own":2,"taken":"Took"}
 
-const UNNUMBERED: &str =
-    r"\x01\x05\x03\0\0\0\x02\x05\0\0\0\x03bob\0\x01\x01\x11\x08\0\0\0\x02\0\0\0\0\0\0\0";
+| ANN_SLOT - FIRST | piece=1 | HEADER+ANN_KEPT+BOB_KEPT+\0 - FIRST
+1901 2 0 1 | BATCH_BOB | {"own":2,"taken":"Took"}
 
-const EQUAL: &str =
-    r"\x01\x05\x03\0\0\0\x01\x05\0\0\0\x03ann\0\x01\x01\x11\x08\0\0\0\x02\0\0\0\0\0\0\0";
+| ANN_SLOT - FIRST | - | - BOTH_SLOT SECOND
+1900 2 0 1 | BATCH_BOTH | {"own":2,"taken":"Took"}
 
-/// Both in one batch with the serials 2 and 9.
-const ALL: &str =
-    r"\x01\x02\x01\x01\x04\0\0\0\x03\0\0\0\x01\x05\x03\0\0\0\x01\x05\0\0\0\x03ann\0\x01\x05\x03\0\0\0\x02\x05\0\0\0\x03bob\0\x01\x01\x11\x08\0\0\0\x02\0\0\0\0\0\0\0";
+| ANN_SLOT - FIRST | - | - HEADER+\x01\x3b\0\0\0\x01\x02\x01\x01\x04\0\0\0\x03\0\0\0\x01\x05\x03\0\0\0\x01\x05\0\0\0\x03ann\0\x01\x05\x03\0\0\0\x02\x05\0\0\0\x03bob\0\x01\x01\x11\x08\0\0\0\x09\0\0\0\0\0\0\0\0 SECOND
+1900 9 0 1 | BATCH_BOTH_NINTH | {"own":9,"taken":"Took"}
 
-const ALL_NINTH: &str =
-    r"\x01\x02\x01\x01\x04\0\0\0\x03\0\0\0\x01\x05\x03\0\0\0\x01\x05\0\0\0\x03ann\0\x01\x05\x03\0\0\0\x02\x05\0\0\0\x03bob\0\x01\x01\x11\x08\0\0\0\x09\0\0\0\0\0\0\0";
+| - - - | - | HEADER+ANN_KEPT+BOB_KEPT+\0 - FIRST
+1900 1 0 1 | BATCH_ANN | {"own":1,"taken":"Took"}
+1901 2 0 1 | BATCH_BOB | {"own":2,"taken":"Took"}
+1901 2 0 1 | BATCH_BOB | {"own":2,"taken":"Repeat"}
+1900 1 0 1 | BATCH_ANN | {"own":2,"taken":"Repeat"}
 
-/// The headers of a Next of the serial 2 whose count stands twice, 7 and then 1; those of it without a count; and those of it with a serial of four bytes.
-const COUNT_TWICE: &str =
-    r"= \xe8\x03\0\0\x08\0\0\0\x02\0\0\0\0\0\0\0\xe9\x03\0\0\x04\0\0\0\0\0\0\0\xea\x03\0\0\x04\0\0\0\x07\0\0\0\xea\x03\0\0\x04\0\0\0\x01\0\0\0";
+# A folder of the first format is migrated before, and has no serial.
+| OLD_ANN - FIRST | - | - NEW_ANN SECOND
+1900 0 0 1 | BATCH_UNCOUNTED | {"own":0,"taken":"Repeat"}
 
-const NO_COUNT: &str = r"= \xe8\x03\0\0\x08\0\0\0\x02\0\0\0\0\0\0\0\xe9\x03\0\0\x04\0\0\0\0\0\0\0";
-
-const SHORT_SERIAL: &str =
-    r"= \xe8\x03\0\0\x04\0\0\0\x02\0\0\0\xe9\x03\0\0\x04\0\0\0\0\0\0\0\xea\x03\0\0\x04\0\0\0\x01\0\0\0";
-
-/// A piece of 1,048,576 bytes.
-const LONG: &str = "a*1048576";
-
-const TOOK_1: &str = r#"{"own":1,"taken":"Took"}"#;
-
-const TOOK_2: &str = r#"{"own":2,"taken":"Took"}"#;
-
-const REPEAT_1: &str = r#"{"own":1,"taken":"Repeat"}"#;
-
-const OLD_1: &str = r#"{"own":1,"taken":"Old"}"#;
-
-const PIECE_1: &str = r#"{"own":1,"taken":"Piece"}"#;
-
-const BAD_SHIP: &str = r#"{"code":60,"name":"BadShip"}"#;
-
-const BAD_BATCH: &str = r#"{"code":61,"name":"BadBatch"}"#;
-
-const AHEAD_0: &str = r#"{"code":63,"name":"Ahead","own":0}"#;
-
-const AHEAD_1: &str = r#"{"code":63,"name":"Ahead","own":1}"#;
-
-const SKIPPED: &str = r#"{"code":64,"name":"Skipped"}"#;
-
-const JOURNAL_FULL: &str = r#"{"code":40,"name":"JournalFull"}"#;
-
-const MARK_FULL: &str = r#"{"code":41,"name":"MarkFull"}"#;
-
-const FOLLOWED: [Followed; 20] = [
-    // No piece of a batch: another content type, a header that is wanting or of another length, a count of none or of too many, a number that is none of
-    // so many, and a body of another size.
-    (
-        ANN,
-        "",
-        &[
-            (1902, "2 0 1", B, BAD_SHIP),
-            (1000, "2 0 1", B, BAD_SHIP),
-            (NEXT, NO_COUNT, B, BAD_SHIP),
-            (NEXT, SHORT_SERIAL, B, BAD_SHIP),
-            (NEXT, "2 0 0", B, BAD_SHIP),
-            (NEXT, "2 0 1025", B, BAD_SHIP),
-            (NEXT, "2 1 1", B, BAD_SHIP),
-            (NEXT, "2 0 2", B, BAD_SHIP),
-            (NEXT, "2 0 1", "-", BAD_SHIP),
-        ],
-        ANN,
-    ),
-    // Of a header that stands twice the last counts.
-    (ANN, "", &[(NEXT, COUNT_TWICE, B, TOOK_2)], ANN_AND_BOB),
-    // A piece that goes on with no batch in parts.
-    (
-        ANN,
-        "",
-        &[
-            (NEXT, "2 1 2", B, SKIPPED),
-            (NEXT, "2 0 2", LONG, PIECE_1),
-            (NEXT, "3 1 2", B, SKIPPED),
-            (WHOLE, "2 1 2", B, SKIPPED),
-            (1902, "2 1 2", B, BAD_SHIP),
-            (NEXT, "2 1 2", B, BAD_BATCH),
-            (NEXT, "2 1 2", B, SKIPPED),
-        ],
-        ANN,
-    ),
-    // Bytes that are no batch, also of what comes late; and a Whole that is no difference of no rows, or gives another serial.
-    (
-        ANN,
-        "",
-        &[
-            (NEXT, "2 0 1", r"\x03", BAD_BATCH),
-            (NEXT, "1 0 1", r"\x03", BAD_BATCH),
-            (WHOLE, "2 0 1", A, BAD_BATCH),
-            (WHOLE, "1 0 1", GOES, BAD_BATCH),
-        ],
-        ANN,
-    ),
-    // What is kept already, what differs from it, and what is kept no more.
-    (
-        ANN,
-        "",
-        &[
-            (WHOLE, "1 0 1", A, REPEAT_1),
-            (
-                WHOLE,
-                "1 0 1",
-                ANM,
-                r#"{"at":26,"code":62,"name":"Differs","serial":1}"#,
-            ),
-            (
-                WHOLE,
-                "1 0 1",
-                TAGGED,
-                r#"{"at":19,"code":62,"name":"Differs","serial":1}"#,
-            ),
-            (NEXT, "1 0 1", B, OLD_1),
-            (NEXT, "0 0 1", B, OLD_1),
-            (WHOLE, "0 0 1", UNCOUNTED, OLD_1),
-        ],
-        ANN,
-    ),
-    (ANN, "", &[(NEXT, "3 0 1", B_THIRD, AHEAD_1)], ANN),
-    (
-        "- - -",
-        "",
-        &[(NEXT, "1 0 1", A, AHEAD_0)],
-        "BARE_SLOT - FIRST",
-    ),
-    // Rows of another serial, of no state, and a put that changes nothing.
-    (ANN, "", &[(NEXT, "2 0 1", B_THIRD, BAD_BATCH)], ANN),
-    (ANN, "", &[(NEXT, "2 0 1", UNNUMBERED, BAD_BATCH)], ANN),
-    (ANN, "", &[(NEXT, "2 0 1", EQUAL, BAD_BATCH)], ANN),
-    // No room.
-    (ANN, "slot=64", &[(NEXT, "2 0 1", B, JOURNAL_FULL)], ANN),
-    (ANN, "slot=64", &[(WHOLE, "2 0 1", ALL, JOURNAL_FULL)], ANN),
-    (ANN, "mark=1", &[(WHOLE, "2 0 1", ALL, MARK_FULL)], ANN),
-    // What is taken, in pieces of the input of any size.
-    (ANN, "", &[(NEXT, "2 0 1", B, TOOK_2)], ANN_AND_BOB),
-    (ANN, "piece=1", &[(NEXT, "2 0 1", B, TOOK_2)], ANN_AND_BOB),
-    (ANN, "", &[(WHOLE, "2 0 1", ALL, TOOK_2)], BOTH),
-    (
-        ANN,
-        "",
-        &[(WHOLE, "9 0 1", ALL_NINTH, r#"{"own":9,"taken":"Took"}"#)],
-        r"- HEADER+\x01\x3b\0\0\0\x01\x02\x01\x01\x04\0\0\0\x03\0\0\0\x01\x05\x03\0\0\0\x01\x05\0\0\0\x03ann\0\x01\x05\x03\0\0\0\x02\x05\0\0\0\x03bob\0\x01\x01\x11\x08\0\0\0\x09\0\0\0\0\0\0\0\0 SECOND",
-    ),
-    (
-        "- - -",
-        "",
-        &[
-            (WHOLE, "1 0 1", A, TOOK_1),
-            (NEXT, "2 0 1", B, TOOK_2),
-            (NEXT, "2 0 1", B, r#"{"own":2,"taken":"Repeat"}"#),
-            (WHOLE, "1 0 1", A, r#"{"own":2,"taken":"Repeat"}"#),
-        ],
-        ANN_AND_BOB,
-    ),
-    // A folder of the first format is migrated before, and has no serial.
-    (
-        "OLD_ANN - FIRST",
-        "",
-        &[(WHOLE, "0 0 1", UNCOUNTED, r#"{"own":0,"taken":"Repeat"}"#)],
-        "- NEW_ANN SECOND",
-    ),
-    // No frame.
-    ("- - -", "", &[], "BARE_SLOT - FIRST"),
-];
-
-/// A run that ends early: the folder, its bounds, the input, the status, and the note.
-type Early = (
-    &'static str,
-    &'static str,
-    &'static str,
-    Status,
-    &'static str,
-);
-
-const EARLY: [Early; 5] = [
-    (
-        ANN,
-        "",
-        "CUT",
-        Status::Truncated,
-        "session 0: 19 bytes left",
-    ),
-    (
-        ANN,
-        "",
-        "UNMARKED",
-        Status::BadInput,
-        "session 0: BadMarker at 0",
-    ),
-    (ANN, "take=0", "CUT", Status::ReadFault, "read fault"),
-    (
-        "- ANN_SLOT FIRST",
-        "",
-        "CUT",
-        Status::Damaged,
-        "damaged: file 0 at 0",
-    ),
-    (
-        "OLD_ANN - FIRST",
-        "mark=1",
-        "CUT",
-        Status::FolderFull,
-        "mark full",
-    ),
-];
+# No frame.
+| - - - | - | BARE_SLOT - FIRST
+"##;
 
 /// Folders that are shipped, and those that their frames make of an empty one.
-const COPIES: [(&str, &str); 8] = [
-    (ANN, ANN),
-    (ANN_AND_BOB, ANN_AND_BOB),
-    (BOTH, "BOTH_SLOT - FIRST"),
+const COPIES: &[(&str, &str)] = &[
+    ("ANN_SLOT - FIRST", "ANN_SLOT - FIRST"),
+    (
+        r"HEADER+ANN_KEPT+BOB_KEPT+\0 - FIRST",
+        r"HEADER+ANN_KEPT+BOB_KEPT+\0 - FIRST",
+    ),
+    ("- BOTH_SLOT SECOND", "BOTH_SLOT - FIRST"),
     (
         r"HEADER+ANN_KEPT+BOB_KEPT+WEB_THIRD+\0 - FIRST",
         r"HEADER+ANN_KEPT+BOB_KEPT+WEB_THIRD+\0 - FIRST",
@@ -277,13 +128,30 @@ const COPIES: [(&str, &str); 8] = [
     ("- - -", "BARE_SLOT - FIRST"),
 ];
 
-// The header of a number in so many bytes.
+/// The frames of a case, and the replies that are wanted.
+#[derive(Drop)]
+struct Exchange {
+    input: Vec<u8>,
+    wanted: Vec<u8>,
+    replies: u32,
+}
+
+// Puts the header of a number in so many bytes.
 fn push_header(bytes: &mut Vec<u8>, key: u32, len: usize, word: &str) -> Result<(), AllocError> {
     let number = word.parse::<u64>().unwrap_or(0).to_le_bytes();
     let (value, _) = number.split_at(len.min(8));
     bytes.extend_from_slice(&key.to_le_bytes())?;
-    bytes.extend_from_slice(&u32::try_from(value.len()).unwrap_or(0).to_le_bytes())?;
+    push_len(bytes, value)?;
     bytes.extend_from_slice(value)
+}
+
+// Puts three headers by their numbers.
+fn push_headers(bytes: &mut Vec<u8>, numbers: &str) -> Result<(), AllocError> {
+    let (serial, rest) = numbers.split_once(' ').unwrap_or((numbers, ""));
+    let (number, count) = rest.split_once(' ').unwrap_or((rest, ""));
+    push_header(bytes, 1000, 8, serial)?;
+    push_header(bytes, 1001, 4, number)?;
+    push_header(bytes, 1002, 4, count)
 }
 
 // Three headers by their numbers, or as they are spelled.
@@ -292,11 +160,7 @@ fn headers_of(alloc: Global, headers: &str) -> Result<Vec<u8>, AllocError> {
         return bytes_of(alloc, spelled);
     }
     let mut bytes = Vec::new(alloc);
-    let (serial, rest) = headers.split_once(' ').unwrap_or((headers, ""));
-    let (number, count) = rest.split_once(' ').unwrap_or((rest, ""));
-    push_header(&mut bytes, 1000, 8, serial)?;
-    push_header(&mut bytes, 1001, 4, number)?;
-    push_header(&mut bytes, 1002, 4, count)?;
+    push_headers(&mut bytes, headers)?;
     Ok(bytes)
 }
 
@@ -320,130 +184,168 @@ fn push_sent(
     bytes.extend_from_slice(body)
 }
 
-// Frames, one behind another.
-fn input_of(alloc: Global, sent: &[Sent]) -> Result<Vec<u8>, AllocError> {
-    let mut bytes = Vec::new(alloc);
-    for (content, headers, body, _) in sent {
-        let headers = headers_of(alloc, headers)?;
-        let body = bytes_of(alloc, body)?;
-        push_sent(&mut bytes, *content, headers.as_slice(), body.as_slice())?;
-    }
-    Ok(bytes)
+// A line of a frame: the content type, the headers, the body, and the body of its reply.
+fn sent_of(line: &str) -> Option<(u32, &str, &str, &str)> {
+    let (head, rest) = line.split_once(" | ")?;
+    let (content, headers) = head.split_once(' ')?;
+    let (body, reply) = rest.split_once(" | ")?;
+    Some((content.parse::<u32>().ok()?, headers, body, reply))
 }
 
-// Their replies.
-fn replies_of(alloc: Global, sent: &[Sent]) -> Result<Vec<u8>, AllocError> {
-    let mut bytes = Vec::new(alloc);
-    let mut sequence = 0u32;
-    for (_, _, _, reply) in sent {
-        push_reply(&mut bytes, sequence, reply)?;
-        sequence = sequence.saturating_add(1);
+impl Exchange {
+    // Puts the frame of a line behind the others.
+    fn put(
+        &mut self,
+        alloc: Global,
+        content: u32,
+        headers: &str,
+        body: &str,
+    ) -> Result<(), AllocError> {
+        let headers = headers_of(alloc, headers)?;
+        let body = bytes_of(alloc, body)?;
+        push_sent(
+            &mut self.input,
+            content,
+            headers.as_slice(),
+            body.as_slice(),
+        )
     }
-    Ok(bytes)
+
+    // Puts a line, if it is one of a frame.
+    fn put_line(&mut self, alloc: Global, line: &str) -> Result<(), AllocError> {
+        if line.starts_with('#') {
+            return Ok(());
+        }
+        let Some((content, headers, body, reply)) = sent_of(line) else {
+            return Ok(());
+        };
+        self.put(alloc, content, headers, body)?;
+        push_reply(&mut self.wanted, self.replies, reply)?;
+        self.replies = self.replies.wrapping_add(1);
+        Ok(())
+    }
+
+    fn put_lines(&mut self, alloc: Global, lines: &str) -> Result<(), AllocError> {
+        for line in lines.lines() {
+            self.put_line(alloc, line)?;
+        }
+        Ok(())
+    }
+}
+
+// The frames and the replies of a case.
+fn exchange_of(alloc: Global, lines: &str) -> Result<Exchange, AllocError> {
+    let mut exchange = Exchange {
+        input: Vec::new(alloc),
+        wanted: Vec::new(alloc),
+        replies: 0,
+    };
+    exchange.put_lines(alloc, lines)?;
+    Ok(exchange)
+}
+
+// The folder of a case, its bounds, the folder behind it, and the lines of the frames.
+fn case_of(case: &str) -> Option<(&str, &str, &str, &str)> {
+    let (_, rest) = case.split_once("| ")?;
+    let (folder, rest) = rest.split_once(" | ")?;
+    let (how, rest) = rest.split_once(" | ")?;
+    let (behind, lines) = rest.split_once('\n').unwrap_or((rest, ""));
+    Some((folder, how, behind, lines))
+}
+
+// The run that follows the frames of a case.
+fn run_of<'r>(what: &'r str, how: How, exchange: &'r Exchange) -> Run<'r> {
+    Run {
+        what,
+        words: "follow",
+        how,
+        input: exchange.input.as_slice(),
+        ended: (Status::Done, exchange.wanted.as_slice(), b""),
+    }
 }
 
 // Follows frames on a folder, which are answered as they have to be, and leave that folder.
 fn follows(
     rt: &impl Abort,
     alloc: Global,
-    case: &Followed,
-    folder: &Images,
-    behind: &Images,
+    lines: &str,
+    how: How,
+    folder: [&[u8]; 3],
+    behind: [&[u8]; 3],
 ) -> Result<(), AllocError> {
-    let (what, how, sent, _) = *case;
-    let input = input_of(alloc, sent)?;
-    let replies = replies_of(alloc, sent)?;
-    let desk = ran(
-        rt,
-        alloc,
-        what,
-        &["follow"],
-        How::AMPLE.by(how),
-        input.as_slice(),
-        parts_in(folder),
-        (Status::Done, replies.as_slice(), b""),
-    )?;
-    has_parts(rt, what, &desk, parts_in(behind));
+    let exchange = exchange_of(alloc, lines)?;
+    leaves(rt, alloc, &run_of(lines, how, &exchange), folder, behind)?;
     Ok(())
 }
 
-fn check_case(rt: &impl Abort, alloc: Global, case: &Followed) -> Result<(), AllocError> {
-    let (folder, _, _, behind) = *case;
+fn check_case(
+    rt: &impl Abort,
+    alloc: Global,
+    case: (&str, &str, &str, &str),
+) -> Result<(), AllocError> {
+    let (folder, how, behind, lines) = case;
     let folder = folder_of(alloc, folder)?;
     let behind = folder_of(alloc, behind)?;
-    follows(rt, alloc, case, &folder, &behind)
+    let how = How::AMPLE.by(how);
+    follows(rt, alloc, lines, how, parts_in(&folder), parts_in(&behind))
 }
 
 #[test]
 fn answers_each_case(rt: HostRuntime) -> Result<(), Fail> {
-    for case in &FOLLOWED {
+    for case in FOLLOWED.split("\n\n") {
+        let case = case_of(case).ok_or("a case has no head")?;
         check_case(&rt, rt.alloc(), case)?;
     }
     Ok(())
 }
 
-fn check_early(rt: &impl Abort, alloc: Global, early: &Early) -> Result<(), AllocError> {
-    let (folder, how, input, status, note) = *early;
-    let folder = folder_of(alloc, folder)?;
-    let input = bytes_of(alloc, input)?;
-    let noted = notes_of(alloc, note)?;
-    let parts = parts_in(&folder);
-    let desk = ran(
-        rt,
-        alloc,
-        note,
-        &["follow"],
-        How::AMPLE.by(how),
-        input.as_slice(),
-        parts,
-        (status, b"", noted.as_slice()),
-    )?;
-    has_parts(rt, note, &desk, parts);
-    Ok(())
-}
-
-#[test]
-fn ends_as_a_replay_does(rt: HostRuntime) -> Result<(), Fail> {
-    for early in &EARLY {
-        check_early(&rt, rt.alloc(), early)?;
-    }
-    Ok(())
-}
-
-// Runs of one word on a folder each. Answers what was said.
-fn said_by(
+fn says(
     rt: &impl Abort,
     alloc: Global,
-    words: &[&str],
-    parts: [&[u8]; 3],
+    words: &str,
+    input: &[u8],
+    desk: &mut MemDesk,
 ) -> Result<Vec<u8>, AllocError> {
-    let mut desk = desk_on(alloc, parts, &[])?;
-    let status = run_words(alloc, words, How::AMPLE, b"", &mut desk)?;
-    is_status(rt, "said", status, Status::Done);
+    let status = run_words(alloc, words, How::AMPLE, input, desk)?;
+    is_status(rt, words, status, Status::Done);
+    are_bytes(rt, words, desk.noted(), b"");
     Vec::from_slice(alloc, desk.said())
 }
 
-// What is shipped of a folder makes a copy of an empty one, of which the counts are the same.
+// What words say of a folder.
+fn said_by(
+    rt: &impl Abort,
+    alloc: Global,
+    words: &str,
+    parts: [&[u8]; 3],
+) -> Result<Vec<u8>, AllocError> {
+    let mut desk = desk_on(alloc, parts, &[])?;
+    says(rt, alloc, words, b"", &mut desk)
+}
+
+// What is shipped of a folder makes a copy of an empty one.
 fn copies(
     rt: &impl Abort,
     alloc: Global,
-    leader: &Images,
-    copy: &Images,
+    leader: [&[u8]; 3],
+    copy: [&[u8]; 3],
 ) -> Result<(), AllocError> {
-    let shipped = said_by(rt, alloc, &["ship", "0"], parts_in(leader))?;
-    let counts = said_by(rt, alloc, &["audit"], parts_in(leader))?;
+    let shipped = said_by(rt, alloc, "ship,0", leader)?;
     let mut desk = desk_on(alloc, EMPTY, &[])?;
-    let status = run_words(
-        alloc,
-        &["follow"],
-        How::AMPLE,
-        shipped.as_slice(),
-        &mut desk,
-    )?;
-    is_status(rt, "copies", status, Status::Done);
-    has_parts(rt, "copies", &desk, parts_in(copy));
-    let copied = said_by(rt, alloc, &["audit"], parts_of(&desk))?;
-    are_bytes(rt, "copies", desk.noted(), b"");
+    says(rt, alloc, "follow", shipped.as_slice(), &mut desk)?;
+    has_parts(rt, "copies", &desk, copy);
+    Ok(())
+}
+
+// The counts of two folders are the same.
+fn counts_same(
+    rt: &impl Abort,
+    alloc: Global,
+    leader: [&[u8]; 3],
+    copy: [&[u8]; 3],
+) -> Result<(), AllocError> {
+    let counts = said_by(rt, alloc, "audit", leader)?;
+    let copied = said_by(rt, alloc, "audit", copy)?;
     are_bytes(rt, "counts", copied.as_slice(), counts.as_slice());
     Ok(())
 }
@@ -451,7 +353,8 @@ fn copies(
 fn check_copy(rt: &impl Abort, alloc: Global, leader: &str, copy: &str) -> Result<(), AllocError> {
     let leader = folder_of(alloc, leader)?;
     let copy = folder_of(alloc, copy)?;
-    copies(rt, alloc, &leader, &copy)
+    copies(rt, alloc, parts_in(&leader), parts_in(&copy))?;
+    counts_same(rt, alloc, parts_in(&leader), parts_in(&copy))
 }
 
 #[test]

@@ -8,7 +8,7 @@ use sample_runs::{
 use std::alloc::{AllocError, Global};
 use std::process::Abort;
 use std::test::Fail;
-use ziti_desk::{MemDesk, Room};
+use ziti_desk::{Images, MemDesk, Room};
 
 /// Room for some hundred replies and notes, for slots of some thousand rows, and for the log of a run.
 const ROOM: Room = Room {
@@ -28,8 +28,43 @@ pub(crate) const OLD_FOLDER: [&[u8]; 3] = [OLD_ANN, b"", FIRST];
 /// How a run ends: its status, what is said, and what is noted.
 pub(crate) type Ended<'b> = (Status, &'b [u8], &'b [u8]);
 
-/// The end of a run at which nothing is said or noted.
-pub(crate) const SILENT: Ended<'static> = (Status::Done, b"", b"");
+/// A run: what it is, its words, how it is bounded, its input, and how it ends.
+#[derive(Clone, Copy)]
+pub(crate) struct Run<'r> {
+    pub(crate) what: &'r str,
+    pub(crate) words: &'r [&'r str],
+    pub(crate) how: How,
+    pub(crate) input: &'r [u8],
+    pub(crate) ended: Ended<'r>,
+}
+
+/// A compaction and a replay of no frame, at which nothing is said or noted.
+pub(crate) const COMPACT: Run<'static> = Run {
+    what: "compact",
+    words: &["compact"],
+    how: How::AMPLE,
+    input: b"",
+    ended: (Status::Done, b"", b""),
+};
+
+pub(crate) const REST: Run<'static> = Run {
+    what: "rest",
+    words: &["replay"],
+    how: How::AMPLE,
+    input: b"",
+    ended: (Status::Done, b"", b""),
+};
+
+/// The replay of a talk's frames, which are answered as they have to be.
+pub(crate) fn replay_of<'r>(what: &'r str, how: How, talk: &'r Talk) -> Run<'r> {
+    Run {
+        what,
+        words: &["replay"],
+        how,
+        input: talk.input(),
+        ended: (Status::Done, talk.wanted(), b""),
+    }
+}
 
 /// In a case bytes are the wanted ones.
 pub(crate) fn are_bytes(rt: &impl Abort, what: &str, found: &[u8], wanted: &[u8]) {
@@ -60,11 +95,6 @@ pub(crate) fn has_parts(rt: &impl Abort, what: &str, desk: &MemDesk, parts: [&[u
     are_bytes(rt, what, mark, parts[2]);
 }
 
-/// In a case the first slot of a desk's folder has these bytes and stands, and the second one has none.
-pub(crate) fn has_slot(rt: &impl Abort, what: &str, desk: &MemDesk, slot: &[u8]) {
-    has_parts(rt, what, desk, [slot, b"", FIRST]);
-}
-
 /// A desk whose folder has these parts, and which fails at these calls, counted from 0.
 pub(crate) fn desk_on(
     alloc: Global,
@@ -92,57 +122,118 @@ pub(crate) fn run_words(
     Ok(run_within(alloc, &line, bounds, &mut source, desk))
 }
 
-/// In a case words run so on an input and a folder of these parts, which ends so. Answers the desk.
+/// A run on a desk ends so, as does all that was said and noted there.
+pub(crate) fn ends(
+    rt: &impl Abort,
+    alloc: Global,
+    run: &Run<'_>,
+    desk: &mut MemDesk,
+) -> Result<(), AllocError> {
+    let status = run_words(alloc, run.words, run.how, run.input, desk)?;
+    let (wanted, said, noted) = run.ended;
+    is_status(rt, run.what, status, wanted);
+    has_told(rt, run.what, desk, said, noted);
+    Ok(())
+}
+
+/// A run on a folder of these parts ends so. Answers the desk.
 pub(crate) fn ran(
     rt: &impl Abort,
     alloc: Global,
-    what: &str,
-    words: &[&str],
-    how: How,
-    input: &[u8],
+    run: &Run<'_>,
     parts: [&[u8]; 3],
-    ended: Ended<'_>,
 ) -> Result<MemDesk, AllocError> {
     let mut desk = desk_on(alloc, parts, &[])?;
-    let status = run_words(alloc, words, how, input, &mut desk)?;
-    let (wanted, said, noted) = ended;
-    is_status(rt, what, status, wanted);
-    has_told(rt, what, &desk, said, noted);
+    ends(rt, alloc, run, &mut desk)?;
     Ok(desk)
 }
 
-/// Replays the frames of a talk on a folder of these parts, which are answered as they have to be. Answers the desk.
-pub(crate) fn talked(
+fn leaves_on(
     rt: &impl Abort,
     alloc: Global,
-    what: &str,
-    how: How,
+    run: &Run<'_>,
+    desk: &mut MemDesk,
+    behind: [&[u8]; 3],
+) -> Result<(), AllocError> {
+    ends(rt, alloc, run, desk)?;
+    has_parts(rt, run.what, desk, behind);
+    Ok(())
+}
+
+/// A run on a folder of these parts ends so, and leaves one of those behind it.
+pub(crate) fn leaves(
+    rt: &impl Abort,
+    alloc: Global,
+    run: &Run<'_>,
     parts: [&[u8]; 3],
-    talk: &Talk,
-) -> Result<MemDesk, AllocError> {
-    let ended = (Status::Done, talk.wanted(), b"".as_slice());
-    ran(
-        rt,
-        alloc,
-        what,
-        &["replay"],
-        how,
-        talk.input(),
-        parts,
-        ended,
-    )
+    behind: [&[u8]; 3],
+) -> Result<(), AllocError> {
+    let mut desk = desk_on(alloc, parts, &[])?;
+    leaves_on(rt, alloc, run, &mut desk, behind)
 }
 
 /// Replays the rows of a text on a folder of these parts, which are answered as they have to be. Answers the desk.
 pub(crate) fn answers(
     rt: &impl Abort,
     alloc: Global,
-    how: How,
     parts: [&[u8]; 3],
     text: &str,
 ) -> Result<MemDesk, AllocError> {
     let talk = Talk::of(alloc, text)?;
-    talked(rt, alloc, text, how, parts, &talk)
+    ran(rt, alloc, &replay_of(text, How::AMPLE, &talk), parts)
+}
+
+/// Replays the rows of a text on a folder of these parts, which are answered as they have to be and leave one of those behind them.
+pub(crate) fn answers_leaving(
+    rt: &impl Abort,
+    alloc: Global,
+    how: How,
+    text: &str,
+    parts: [&[u8]; 3],
+    behind: [&[u8]; 3],
+) -> Result<(), AllocError> {
+    let talk = Talk::of(alloc, text)?;
+    leaves(rt, alloc, &replay_of(text, how, &talk), parts, behind)
+}
+
+// The place of what was said among some texts.
+fn place_of(rt: &impl Abort, said: &[u8], texts: &[&[u8]]) -> usize {
+    let mut place = 0usize;
+    for text in texts {
+        if said == *text {
+            return place;
+        }
+        place = place.saturating_add(1);
+    }
+    are_bytes(rt, "none of the texts", said, b"");
+    place
+}
+
+fn says_on(
+    rt: &impl Abort,
+    alloc: Global,
+    words: &[&str],
+    input: &[u8],
+    texts: &[&[u8]],
+    desk: &mut MemDesk,
+) -> Result<usize, AllocError> {
+    let status = run_words(alloc, words, How::AMPLE, input, desk)?;
+    is_status(rt, "says", status, Status::Done);
+    are_bytes(rt, "says", desk.noted(), b"");
+    Ok(place_of(rt, desk.said(), texts))
+}
+
+/// Which of some texts words say on an input and a folder of these parts: its place. Nothing is noted.
+pub(crate) fn says_one_of(
+    rt: &impl Abort,
+    alloc: Global,
+    words: &[&str],
+    input: &[u8],
+    parts: [&[u8]; 3],
+    texts: &[&[u8]],
+) -> Result<usize, AllocError> {
+    let mut desk = desk_on(alloc, parts, &[])?;
+    says_on(rt, alloc, words, input, texts, &mut desk)
 }
 
 /// How many identities a folder of these parts keeps, from none to two, and nothing else. It is not damaged.
@@ -151,22 +242,38 @@ pub(crate) fn identities_in(
     alloc: Global,
     parts: [&[u8]; 3],
 ) -> Result<usize, AllocError> {
-    let mut desk = desk_on(alloc, parts, &[])?;
-    let status = run_words(alloc, &["audit"], How::AMPLE, b"", &mut desk)?;
-    is_status(rt, "audit", status, Status::Done);
-    holds(rt, "no note", desk.noted().is_empty());
-    Ok(counted(rt, desk.said()))
+    says_one_of(
+        rt,
+        alloc,
+        &["audit"],
+        b"",
+        parts,
+        &[NOTHING, ANN_ALONE, BOTH],
+    )
 }
 
-// How many identities are counted by what was said, from none to two.
-fn counted(rt: &impl Abort, said: &[u8]) -> usize {
-    for (count, line) in [(0usize, NOTHING), (1, ANN_ALONE), (2, BOTH)] {
-        if said == line {
-            return count;
-        }
-    }
-    holds(rt, "other counts", false);
-    0
+/// What a stop left: the folder, and how many bytes of replies were taken.
+#[derive(Drop)]
+pub(crate) struct Left {
+    pub(crate) images: Images,
+    pub(crate) taken: usize,
+}
+
+/// What a stop at a moment of a desk leaves, by a choice. What was said up to it is a front of what the whole run says.
+pub(crate) fn left_at(
+    rt: &impl Abort,
+    alloc: Global,
+    desk: &MemDesk,
+    moment: u64,
+    choice: u64,
+) -> Result<Left, AllocError> {
+    assert!(rt; moment <= desk.moments());
+    let (images, taken) = desk.stopped(alloc, moment, choice)?;
+    holds(rt, "a front", desk.said().starts_with(taken.as_slice()));
+    Ok(Left {
+        images,
+        taken: taken.len(),
+    })
 }
 
 // The slot that stands, by the length of the mark.
@@ -178,6 +285,18 @@ fn standing(parts: [&[u8]; 3]) -> &[u8] {
     one
 }
 
+fn has_rows_on(
+    rt: &impl Abort,
+    alloc: Global,
+    slot: &[u8],
+    desk: &mut MemDesk,
+) -> Result<(), AllocError> {
+    ends(rt, alloc, &COMPACT, desk)?;
+    let found = standing(parts_of(desk));
+    are_bytes(rt, "rows", found.get(..slot.len()).unwrap_or(found), slot);
+    Ok(())
+}
+
 /// A folder of these parts has the rows of this slot: compacted, the slot that stands begins with it.
 pub(crate) fn has_rows(
     rt: &impl Abort,
@@ -185,17 +304,6 @@ pub(crate) fn has_rows(
     parts: [&[u8]; 3],
     slot: &[u8],
 ) -> Result<(), AllocError> {
-    let desk = ran(
-        rt,
-        alloc,
-        "rows",
-        &["compact"],
-        How::AMPLE,
-        b"",
-        parts,
-        SILENT,
-    )?;
-    let found = standing(parts_of(&desk));
-    are_bytes(rt, "rows", found.get(..slot.len()).unwrap_or(found), slot);
-    Ok(())
+    let mut desk = desk_on(alloc, parts, &[])?;
+    has_rows_on(rt, alloc, slot, &mut desk)
 }

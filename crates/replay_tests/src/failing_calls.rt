@@ -1,6 +1,7 @@
 //! Runs in which each call of the desk fails in turn: how they end, what is said and noted, and to what the folder then opens.
 
 use crate::checks::{desk_on, has_told, holds, identities_in, is_status, run_words};
+use crate::stops::CHOICES;
 use ctrl_serve::Status;
 use sample_runs::{How, bytes_of, folder_of, parts_in, parts_of};
 use std::alloc::{AllocError, Global};
@@ -17,7 +18,7 @@ type Trial = (
     [usize; 2],
 );
 
-const TRIALS: [Trial; 12] = [
+const TRIALS: &[Trial] = &[
     // Ann's frame on an empty folder, which is created by two writes and two syncs, and takes her record by as many.
     (&["replay"], ["- - -", "ANN", "MADE"], [0, 1], [8, 1]),
     // Bob's frame on ann's folder: two syncs where it is opened, two writes and two syncs.
@@ -120,6 +121,36 @@ fn is_left(
     is_kept(rt, alloc, kept, status, parts_in(&images))
 }
 
+// A run ended with a status on a desk.
+fn has_ended(
+    rt: &impl Abort,
+    alloc: Global,
+    kept: [usize; 2],
+    status: Status,
+    desk: &MemDesk,
+) -> Result<(), AllocError> {
+    is_kept(rt, alloc, kept, status, parts_of(desk))?;
+    for choice in CHOICES {
+        is_left(rt, alloc, kept, status, desk, choice)?;
+    }
+    Ok(())
+}
+
+// Makes a trial on a desk.
+fn ends_on(
+    rt: &impl Abort,
+    alloc: Global,
+    trial: &Trial,
+    given: &Given,
+    desk: &mut MemDesk,
+) -> Result<Status, AllocError> {
+    let (words, _, kept, _) = *trial;
+    let status = run_words(alloc, words, How::AMPLE, given.input.as_slice(), desk)?;
+    check_told(rt, desk, status, given.said.as_slice());
+    has_ended(rt, alloc, kept, status, desk)?;
+    Ok(status)
+}
+
 // Makes a trial in which one call of the desk fails.
 fn fails_at(
     rt: &impl Abort,
@@ -128,38 +159,41 @@ fn fails_at(
     given: &Given,
     call: u32,
 ) -> Result<Status, AllocError> {
-    let (words, _, kept, _) = *trial;
     let mut desk = desk_on(alloc, parts_in(&given.folder), &[call])?;
-    let input = given.input.as_slice();
-    let status = run_words(alloc, words, How::AMPLE, input, &mut desk)?;
-    check_told(rt, &desk, status, given.said.as_slice());
-    is_kept(rt, alloc, kept, status, parts_of(&desk))?;
-    for choice in 0u64..3 {
-        is_left(rt, alloc, kept, status, &desk, choice)?;
-    }
-    Ok(status)
+    ends_on(rt, alloc, trial, given, &mut desk)
 }
 
 // Each call of the desk fails in turn, until there is no such call: first all those on the disk, then the say. Where that fails the
-// folder is as behind the whole run.
+// folder is as behind the whole run. Answers how many of either there are.
 fn fails_in_turn(
     rt: &impl Abort,
     alloc: Global,
     trial: &Trial,
     given: &Given,
-) -> Result<(), AllocError> {
-    let (mut disk, mut says) = (0usize, 0usize);
-    let (_, _, _, [least, wanted]) = *trial;
+) -> Result<[usize; 2], AllocError> {
+    let mut counts = [0usize; 2];
     for call in 0u32..64 {
         match fails_at(rt, alloc, trial, given, call)? {
-            Status::DiskFault => disk = disk.saturating_add(1),
-            Status::WriteFault => says = says.saturating_add(1),
+            Status::DiskFault => counts[0] = counts[0].saturating_add(1),
+            Status::WriteFault => counts[1] = counts[1].saturating_add(1),
             status => {
                 is_status(rt, "whole", status, Status::Done);
                 break;
             }
         }
     }
+    Ok(counts)
+}
+
+// So many calls on the disk there are at least, and so many says.
+fn check_given(
+    rt: &impl Abort,
+    alloc: Global,
+    trial: &Trial,
+    given: &Given,
+) -> Result<(), AllocError> {
+    let (_, _, _, [least, wanted]) = *trial;
+    let [disk, says] = fails_in_turn(rt, alloc, trial, given)?;
     holds(rt, "calls on the disk", disk >= least && disk < 60);
     holds(rt, "says", says == wanted);
     Ok(())
@@ -172,12 +206,12 @@ fn check_trial(rt: &impl Abort, alloc: Global, trial: &Trial) -> Result<(), Allo
         input: bytes_of(alloc, input)?,
         said: bytes_of(alloc, said)?,
     };
-    fails_in_turn(rt, alloc, trial, &given)
+    check_given(rt, alloc, trial, &given)
 }
 
 #[test]
 fn ends_at_each_failing_call(rt: HostRuntime) -> Result<(), Fail> {
-    for trial in &TRIALS {
+    for trial in TRIALS {
         check_trial(&rt, rt.alloc(), trial)?;
     }
     Ok(())

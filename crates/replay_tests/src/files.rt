@@ -3,15 +3,81 @@
 use crate::checks::{are_bytes, holds, is_status};
 use ctrl_serve::{Status, run};
 use sample_runs::{
-    ANN_SLOT, Asked, BOTH, Calls, FIRST, NONE_FAILS, NOTHING, Name, Recorded, SECOND, Spoken, Talk,
-    bytes_of, source_of, words_of,
+    Asked, Calls, NONE_FAILS, Name, Recorded, Spoken, bytes_of, folder_of, parts_in, source_of,
+    words_of,
 };
 use std::alloc::{AllocError, Global};
+use std::io::Write;
 use std::process::Abort;
+use std::rt::Files;
 use std::test::Fail;
 use std::{fs, io};
 use ziti_desk::{FileDesk, Folder, Paths, Writes};
 use ziti_outside::Desk;
+
+/// A run over the files, one behind the other: its words, its input and what is said, as their parts, and the folder behind it, or none where there is no
+/// file. Whether it looks alone; else each write is synced at once, and at last there may be a cut that is not.
+#[derive(Clone, Copy)]
+struct Step {
+    words: &'static [&'static str],
+    input: &'static str,
+    said: &'static str,
+    behind: Option<&'static str>,
+    looks: bool,
+    cuts: bool,
+}
+
+/// Looks at the working folder make no file. A folder is begun, compacted, goes on, and is looked at.
+const STEPS: &[Step] = &[
+    Step {
+        words: &["audit"],
+        input: "-",
+        said: "NOTHING",
+        behind: None,
+        looks: true,
+        cuts: false,
+    },
+    Step {
+        words: &["advise", "ann", "web"],
+        input: "-",
+        said: "NO_ONE",
+        behind: None,
+        looks: true,
+        cuts: false,
+    },
+    Step {
+        words: &["replay"],
+        input: "ANN",
+        said: "MADE",
+        behind: Some("ANN_SLOT - FIRST"),
+        looks: false,
+        cuts: false,
+    },
+    Step {
+        words: &["compact"],
+        input: "-",
+        said: "-",
+        behind: Some("- ANN_SLOT SECOND"),
+        looks: false,
+        cuts: true,
+    },
+    Step {
+        words: &["replay"],
+        input: "BOB",
+        said: "BOB_MADE",
+        behind: Some("- HEADER+ANN_KEPT+BOB_KEPT+\\0 SECOND"),
+        looks: false,
+        cuts: false,
+    },
+    Step {
+        words: &["audit"],
+        input: "-",
+        said: "BOTH",
+        behind: Some("- HEADER+ANN_KEPT+BOB_KEPT+\\0 SECOND"),
+        looks: true,
+        cuts: false,
+    },
+];
 
 // Runs words on an input and a desk, which ends as done.
 fn runs<D: Desk>(
@@ -28,23 +94,22 @@ fn runs<D: Desk>(
     Ok(())
 }
 
-// Runs words over the files of the working folder, which are recorded beside what is said; what is noted is put behind the bytes.
-fn runs_over<'c>(
+// Runs words over the files of the working folder and two writers.
+fn runs_over<R: Files, W: Write, N: Write>(
     rt: &impl Abort,
-    host: &'c HostRuntime,
+    alloc: Global,
     words: &[&str],
     input: &[u8],
-    spoken: &mut Spoken<'c>,
-    noted: &mut Vec<u8>,
+    files: &R,
+    said: &mut W,
+    noted: &mut N,
 ) -> Result<(), AllocError> {
-    let calls = spoken.calls;
-    let files = Recorded { host, calls };
-    let folder = Folder::new(&files, Paths::WORKING_FOLDER);
-    let mut desk = FileDesk::new(folder, Writes::new(spoken), Writes::new(noted));
-    runs(rt, host.alloc(), words, input, &mut desk)
+    let folder = Folder::new(files, Paths::WORKING_FOLDER);
+    let mut desk = FileDesk::new(folder, Writes::new(said), Writes::new(noted));
+    runs(rt, alloc, words, input, &mut desk)
 }
 
-// What is said and noted of a run of words over recorded files: these replies, and no note.
+// Runs words over recorded files. These replies are said, and nothing is noted.
 fn says(
     rt: &impl Abort,
     host: &HostRuntime,
@@ -53,28 +118,24 @@ fn says(
     input: &[u8],
     said: &[u8],
 ) -> Result<(), AllocError> {
+    let files = Recorded { host, calls };
     let mut noted = Vec::new(host.alloc());
     let mut spoken = Spoken {
         bytes: Vec::new(host.alloc()),
         calls,
     };
-    runs_over(rt, host, words, input, &mut spoken, &mut noted)?;
+    runs_over(
+        rt,
+        host.alloc(),
+        words,
+        input,
+        &files,
+        &mut spoken,
+        &mut noted,
+    )?;
     are_bytes(rt, "said", spoken.bytes.as_slice(), said);
     are_bytes(rt, "noted", noted.as_slice(), b"");
     Ok(())
-}
-
-// Runs words on an input over recorded files. These replies are said and nothing is noted. Answers what was asked.
-fn asks(
-    rt: &impl Abort,
-    host: &HostRuntime,
-    words: &[&str],
-    input: &[u8],
-    said: &[u8],
-) -> Result<Vec<Asked>, AllocError> {
-    let calls = Calls::new(host.alloc(), NONE_FAILS);
-    says(rt, host, &calls, words, input, said)?;
-    calls.all(host.alloc())
 }
 
 // A write is followed by a sync of its file at once, before anything is said.
@@ -103,6 +164,34 @@ fn looks_alone(rt: &impl Abort, all: &[Asked]) {
     }
 }
 
+// The calls of a step were in order. The slot that stood is cut at last.
+fn are_ordered(rt: &impl Abort, all: &[Asked], step: &Step) {
+    if step.looks {
+        looks_alone(rt, all);
+    } else {
+        syncs_each_write(rt, all);
+    }
+    let is_cut = all.last() == Some(&Asked::Cut(Name::Zero, 0));
+    holds(rt, "a cut", is_cut == step.cuts);
+}
+
+fn asks(
+    rt: &impl Abort,
+    host: &HostRuntime,
+    step: &Step,
+    input: &[u8],
+    said: &[u8],
+) -> Result<(), AllocError> {
+    let calls = Calls::new(host.alloc(), NONE_FAILS);
+    says(rt, host, &calls, step.words, input, said)?;
+    let all = calls.all(host.alloc())?;
+    are_ordered(rt, all.as_slice(), step);
+    Ok(())
+}
+
+/// The files of the working folder.
+const PATHS: [&str; 3] = ["ziti.0", "ziti.1", "ziti.mark"];
+
 // A file of the working folder has these bytes; one that is wanted to have none may be absent.
 fn has_file(rt: &impl Abort, host: &HostRuntime, path: &str, wanted: &[u8]) {
     match fs::read(host, path) {
@@ -117,47 +206,30 @@ fn has_files(rt: &impl Abort, host: &HostRuntime, wanted: [&[u8]; 3]) {
     has_file(rt, host, "ziti.mark", wanted[2]);
 }
 
-fn replays(rt: &impl Abort, host: &HostRuntime, row: &str) -> Result<(), AllocError> {
-    let talk = Talk::of(host.alloc(), row)?;
-    let all = asks(rt, host, &["replay"], talk.input(), talk.wanted())?;
-    syncs_each_write(rt, all.as_slice());
+// The working folder has no file of the controller.
+fn has_no_file(rt: &impl Abort, host: &HostRuntime) {
+    for path in PATHS {
+        holds(rt, path, fs::read(host, path).is_err());
+    }
+}
+
+// The files are those of a folder, or there is none.
+fn is_left(rt: &impl Abort, host: &HostRuntime, behind: Option<&str>) -> Result<(), AllocError> {
+    let Some(parts) = behind else {
+        has_no_file(rt, host);
+        return Ok(());
+    };
+    let folder = folder_of(host.alloc(), parts)?;
+    has_files(rt, host, parts_in(&folder));
     Ok(())
 }
 
-// The slot that stood is cut at last, which is not synced.
-fn compacts(rt: &impl Abort, host: &HostRuntime) -> Result<(), AllocError> {
-    let all = asks(rt, host, &["compact"], b"", b"")?;
-    syncs_each_write(rt, all.as_slice());
-    let last = all.as_slice().last();
-    holds(rt, "a cut", last == Some(&Asked::Cut(Name::Zero, 0)));
-    Ok(())
+fn makes(rt: &impl Abort, host: &HostRuntime, step: &Step) -> Result<(), AllocError> {
+    let input = bytes_of(host.alloc(), step.input)?;
+    let said = bytes_of(host.alloc(), step.said)?;
+    asks(rt, host, step, input.as_slice(), said.as_slice())?;
+    is_left(rt, host, step.behind)
 }
-
-fn looks(
-    rt: &impl Abort,
-    host: &HostRuntime,
-    words: &[&str],
-    line: &[u8],
-) -> Result<(), AllocError> {
-    let all = asks(rt, host, words, b"", line)?;
-    looks_alone(rt, all.as_slice());
-    Ok(())
-}
-
-// A folder is begun, compacted, goes on, and is looked at: its files have what the formats say, and the last run changes none.
-fn goes_on(rt: &impl Abort, host: &HostRuntime, both: &[u8]) -> Result<(), AllocError> {
-    replays(rt, host, r#"1000 {"name":"ann"} -> {"no":1}"#)?;
-    has_files(rt, host, [ANN_SLOT, b"", FIRST]);
-    compacts(rt, host)?;
-    has_files(rt, host, [b"", ANN_SLOT, SECOND]);
-    replays(rt, host, r#"1000 {"name":"bob"} -> {"no":2}"#)?;
-    has_files(rt, host, [b"", both, SECOND]);
-    looks(rt, host, &["audit"], BOTH)?;
-    has_files(rt, host, [b"", both, SECOND]);
-    Ok(())
-}
-
-const PATHS: [&str; 3] = ["ziti.0", "ziti.1", "ziti.mark"];
 
 fn removes(host: &HostRuntime) -> io::Result<()> {
     for path in PATHS {
@@ -166,28 +238,12 @@ fn removes(host: &HostRuntime) -> io::Result<()> {
     Ok(())
 }
 
-// The working folder has no file of the controller.
-fn has_no_file(rt: &impl Abort, host: &HostRuntime) {
-    for path in PATHS {
-        holds(rt, path, fs::read(host, path).is_err());
-    }
-}
-
-// Looks at the working folder make no file.
-fn makes_no_file(rt: &impl Abort, host: &HostRuntime) -> Result<(), AllocError> {
-    let no_one = bytes_of(host.alloc(), "NO_ONE")?;
-    has_no_file(rt, host);
-    looks(rt, host, &["audit"], NOTHING)?;
-    looks(rt, host, &["advise", "ann", "web"], no_one.as_slice())?;
-    has_no_file(rt, host);
-    Ok(())
-}
-
 #[test]
 fn keeps_a_folder_of_files(rt: HostRuntime) -> Result<(), Fail> {
-    let both = bytes_of(rt.alloc(), "HEADER+ANN_KEPT+BOB_KEPT+\\0")?;
-    makes_no_file(&rt, &rt)?;
-    goes_on(&rt, &rt, both.as_slice())?;
+    has_no_file(&rt, &rt);
+    for step in STEPS {
+        makes(&rt, &rt, step)?;
+    }
     removes(&rt)?;
     Ok(())
 }

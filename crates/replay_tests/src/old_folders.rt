@@ -1,7 +1,7 @@
 //! A folder of the first format, as a program of before the second one wrote it: what is counted in it, how requests are answered on it, and the rows
 //! to which it is migrated.
 
-use crate::checks::{SILENT, answers, has_parts, ran};
+use crate::checks::{COMPACT, REST, Run, answers_leaving, leaves};
 use ctrl_serve::Status;
 use sample_runs::{FIRST, How, SECOND};
 use std::alloc::{AllocError, Global};
@@ -10,7 +10,7 @@ use std::test::Fail;
 
 /// The first slot of the folder: the header, a record for each change, and a closed gate. All records but the last one were written by the program of
 /// commit `f81fce92`, as it was made of the sources without proof; that one answered the requests below on the folder with the last record.
-const WRITTEN: [&[u8]; 25] = [
+const WRITTEN: &[&[u8]] = &[
     b"ZCTL\x01\0\0\0",
     // The identity ann, with the attribute staff.
     b"\x01\x22\0\0\0\x01\x02\x01\x01\x04\0\0\0\x02\0\0\0\x01\x05\x03\0\0\0\x01\x0b\0\0\0\x03ann\x01\x05staff",
@@ -63,7 +63,7 @@ const WRITTEN: [&[u8]; 25] = [
 ];
 
 /// The slot to which it is migrated, worked from the bytes above: what the records leave, in one batch of 678 bytes, with counts of two bytes.
-const MIGRATED: [&[u8]; 36] = [
+const MIGRATED: &[&[u8]] = &[
     b"ZCTL\x02\0\0\0\x01\xa6\x02\0\0",
     // The next numbers of the nine kinds.
     b"\x01\x02\x01\x01\x04\0\0\0\x04\0\0\0",
@@ -116,8 +116,8 @@ const MIGRATED: [&[u8]; 36] = [
     b"\x01\x09\x0f\0\0\0\x02\0\0\0\x02\x02\0\0\0\x01\0",
 ];
 
-/// The records behind the requests: those that the program of before wrote, with counts of two bytes and the serials behind a migration.
-const LATER: [&[u8]; 5] = [
+/// The records behind the requests, and the closed gate: those that the program of before wrote, with counts of two bytes and the serials behind a migration.
+const LATER: &[&[u8]] = &[
     // Bob, the number 4, who may enter by r1; and the circuit to api, which ends.
     b"\x01C\0\0\0\x01\x02\x01\x01\x04\0\0\0\x05\0\0\0\x01\x05\x03\0\0\0\x04\x05\0\0\0\x03bob\0\x02\x05\x0b\0\0\0\x02\x01\x09\x0e\0\0\0\x04\0\0\0\x01\x02\0\0\0\x01\0\x01\x01\x11\x08\0\0\0\x01\0\0\0\0\0\0\0",
     // Another policy more, the number 4: bob may dial all services.
@@ -128,6 +128,7 @@ const LATER: [&[u8]; 5] = [
     b"\x01;\0\0\0\x01\x02\x01\x09\x04\0\0\0\x05\0\0\0\x01\x05\x0b\0\0\0\x04\x15\0\0\0\x04\0\0\0\x01\0\0\0\x01\0\0\0\x01\0\0\0\x01\x01\0\0\0\x01\x01\x11\x08\0\0\0\x04\0\0\0\0\0\0\0",
     // Cyd, who goes: from the policies bind and hosts too, with the terminator of web and the circuits that end there.
     b"\x01\x80\0\0\0\x02\x05\x03\0\0\0\x03\x01\x05\x07\0\0\0\x03\x11\0\0\0\x04bind\x02\x02\0\0\0\0\x01\x03web\0\x01\x05\x08\0\0\0\x02\x0d\0\0\0\x05hosts\x01\0\0\0\x01\0\0\x02\x05\x0a\0\0\0\x01\x02\x05\x0b\0\0\0\x01\x02\x05\x0b\0\0\0\x04\x02\x09\x0d\0\0\0\x03\0\0\0\x01\x02\x09\x0e\0\0\0\x03\0\0\0\x01\x02\x09\x0e\0\0\0\x03\0\0\0\x02\x01\x01\x11\x08\0\0\0\x05\0\0\0\0\0\0\0",
+    b"\0",
 ];
 
 /// What is counted before the requests.
@@ -161,79 +162,84 @@ const ASKED: &str = r##"
 1502 {} -> {"circuits":1,"grants":9,"identities":2,"links":1,"policies":6,"routers":2,"services":2,"terminators":1}
 "##;
 
-// The bytes of some pieces, one behind the other.
-fn joined(alloc: Global, pieces: &[&[u8]]) -> Result<Vec<u8>, AllocError> {
-    let mut bytes = Vec::new(alloc);
+/// The look at the folder.
+const COUNTS: Run<'static> = Run {
+    what: "audit",
+    words: &["audit"],
+    how: How::AMPLE,
+    input: b"",
+    ended: (Status::Done, COUNTED, b""),
+};
+
+// Puts some pieces behind the bytes.
+fn push_all(bytes: &mut Vec<u8>, pieces: &[&[u8]]) -> Result<(), AllocError> {
     for piece in pieces {
         bytes.extend_from_slice(piece)?;
     }
-    Ok(bytes)
+    Ok(())
 }
 
-// The slot of the migrated rows, with some records behind them.
-fn migrated(alloc: Global, later: &[&[u8]]) -> Result<Vec<u8>, AllocError> {
-    let mut slot = joined(alloc, &MIGRATED)?;
-    for record in later {
-        slot.extend_from_slice(record)?;
-    }
-    slot.push(0)?;
+// The slot of some pieces, with later ones behind them.
+fn slot_with(alloc: Global, pieces: &[&[u8]], later: &[&[u8]]) -> Result<Vec<u8>, AllocError> {
+    let mut slot = Vec::new(alloc);
+    push_all(&mut slot, pieces)?;
+    push_all(&mut slot, later)?;
     Ok(slot)
 }
 
-// The folder is counted as it was written, and left as it is.
-fn is_counted(rt: &impl Abort, alloc: Global, parts: [&[u8]; 3]) -> Result<(), AllocError> {
-    let ended = (Status::Done, COUNTED, b"".as_slice());
-    let desk = ran(
-        rt,
-        alloc,
-        "audit",
-        &["audit"],
-        How::AMPLE,
-        b"",
-        parts,
-        ended,
-    )?;
-    has_parts(rt, "audit", &desk, parts);
-    Ok(())
-}
-
-// A word without input leaves one folder of another, and the same is counted in both.
-fn leaves(
+// The folder is counted as it was written, and left as it is; so is the one to which it is migrated, by a replay of nothing or by a compaction.
+fn migrates<'x>(
     rt: &impl Abort,
     alloc: Global,
-    word: &str,
-    before: [&[u8]; 3],
-    behind: [&[u8]; 3],
+    before: [&'x [u8]; 3],
+    once: [&'x [u8]; 3],
+    twice: [&'x [u8]; 3],
 ) -> Result<(), AllocError> {
-    is_counted(rt, alloc, before)?;
-    let desk = ran(rt, alloc, word, &[word], How::AMPLE, b"", before, SILENT)?;
-    has_parts(rt, word, &desk, behind);
-    is_counted(rt, alloc, behind)
+    for parts in [before, once, twice] {
+        leaves(rt, alloc, &COUNTS, parts, parts)?;
+    }
+    leaves(rt, alloc, &REST, before, once)?;
+    leaves(rt, alloc, &COMPACT, before, twice)?;
+    leaves(rt, alloc, &REST, once, once)
 }
 
-#[test]
-fn migrates_an_old_folder(rt: HostRuntime) -> Result<(), Fail> {
-    let old = joined(rt.alloc(), &WRITTEN)?;
-    let new = migrated(rt.alloc(), &[])?;
-    let before = [old.as_slice(), b"", FIRST];
-    let once = [b"".as_slice(), new.as_slice(), SECOND];
-    let twice = [new.as_slice(), b"", b"\0\0\0"];
-    leaves(&rt, rt.alloc(), "replay", before, once)?;
-    leaves(&rt, rt.alloc(), "compact", before, twice)?;
-    leaves(&rt, rt.alloc(), "replay", once, once)?;
+fn check_migrations<'x>(
+    rt: &impl Abort,
+    alloc: Global,
+    old: &'x [u8],
+    new: &'x [u8],
+) -> Result<(), AllocError> {
+    let before = [old, b"", FIRST];
+    let once = [b"".as_slice(), new, SECOND];
+    let twice = [new, b"", b"\0\0\0"];
+    migrates(rt, alloc, before, once, twice)
+}
+
+// It answers as before, whether or not it was migrated.
+fn check_answers<'x>(
+    rt: &impl Abort,
+    alloc: Global,
+    old: &'x [u8],
+    new: &'x [u8],
+    later: &[u8],
+) -> Result<(), AllocError> {
+    let behind = [b"".as_slice(), later, SECOND];
+    for parts in [[old, b"", FIRST], [b"".as_slice(), new, SECOND]] {
+        answers_leaving(rt, alloc, How::AMPLE, ASKED, parts, behind)?;
+    }
     Ok(())
 }
 
+fn check_folders(rt: &impl Abort, alloc: Global, old: &[u8], new: &[u8]) -> Result<(), AllocError> {
+    let later = slot_with(alloc, MIGRATED, LATER)?;
+    check_migrations(rt, alloc, old, new)?;
+    check_answers(rt, alloc, old, new, later.as_slice())
+}
+
 #[test]
-fn answers_on_an_old_folder_as_before(rt: HostRuntime) -> Result<(), Fail> {
-    let old = joined(rt.alloc(), &WRITTEN)?;
-    let new = migrated(rt.alloc(), &[])?;
-    let later = migrated(rt.alloc(), &LATER)?;
-    let before = [old.as_slice(), b"", FIRST];
-    let once = [b"".as_slice(), new.as_slice(), SECOND];
-    for parts in [before, once] {
-        let desk = answers(&rt, rt.alloc(), How::AMPLE, parts, ASKED)?;
-        has_parts(&rt, "asked", &desk, [b"", later.as_slice(), SECOND]);
-    }
+fn migrates_an_old_folder_and_answers_on_it_as_before(rt: HostRuntime) -> Result<(), Fail> {
+    let old = slot_with(rt.alloc(), WRITTEN, &[])?;
+    let new = slot_with(rt.alloc(), MIGRATED, &[b"\0"])?;
+    check_folders(&rt, rt.alloc(), old.as_slice(), new.as_slice())?;
     Ok(())
 }

@@ -1,11 +1,10 @@
 //! Replays on a folder: what is answered by room, what is then kept, and that it is kept where nothing at all is asked of it.
 
-use crate::checks::{SILENT, answers, has_parts, ran};
-use sample_runs::{ANN_SLOT, FIRST, How, SECOND, folder_of, parts_in};
+use crate::checks::answers_leaving;
+use sample_runs::{How, folder_of, parts_in};
 use std::alloc::{AllocError, Global};
 use std::process::Abort;
 use std::test::Fail;
-use ziti_desk::Images;
 
 /// Runs, with the folder before, how it is bounded, and the folder behind the run. A slot has 9 bytes beside its records; the records of identities and of
 /// web have 48 bytes, that of the policy 70, and those of the router 50 and 38. Compacted, ann, bob and web take 14 bytes and a batch of 87.
@@ -65,6 +64,27 @@ PAIR
 
 # bob's record is written over web's, so a closed gate stands where the policy's was | HEADER+ANN_KEPT+WEB_CLOSED+GRANT_KEPT+\0 - FIRST | slot=105 mark=1 | HEADER+ANN_KEPT+BOB_KEPT+GRANT_CLOSED+\0 - FIRST
 1000 {"name":"bob"} -> {"no":2}
+
+# ann's folder, which was never compacted, and then answers the same | ANN_SLOT - FIRST | - | HEADER+ANN_KEPT+BOB_KEPT+ANN_GOES+ANN_FOURTH+\0 - FIRST
+1000 {"name":"ann"} -> {"code":20,"name":"Exists"}
+1500 {"identity":"ann"} -> {"bind":[],"dial":[],"routers":[]}
+1000 {"name":"bob"} -> {"no":2}
+1002 {"name":"ann"} -> {}
+1000 {"name":"ann"} -> {"no":3}
+
+# the one that was compacted once | - ANN_SLOT SECOND | - | - HEADER+ANN_KEPT+BOB_KEPT+ANN_GOES+ANN_FOURTH+\0 SECOND
+1000 {"name":"ann"} -> {"code":20,"name":"Exists"}
+1500 {"identity":"ann"} -> {"bind":[],"dial":[],"routers":[]}
+1000 {"name":"bob"} -> {"no":2}
+1002 {"name":"ann"} -> {}
+1000 {"name":"ann"} -> {"no":3}
+
+# and twice | ANN_SLOT - THIRD | - | HEADER+ANN_KEPT+BOB_KEPT+ANN_GOES+ANN_FOURTH+\0 - THIRD
+1000 {"name":"ann"} -> {"code":20,"name":"Exists"}
+1500 {"identity":"ann"} -> {"bind":[],"dial":[],"routers":[]}
+1000 {"name":"bob"} -> {"no":2}
+1002 {"name":"ann"} -> {}
+1000 {"name":"ann"} -> {"no":3}
 "##;
 
 // The folder before a run, how it is bounded, and the folder behind it, of its first line.
@@ -82,24 +102,11 @@ fn keeps(
     alloc: Global,
     run: &str,
     how: How,
-    before: &Images,
-    after: &Images,
+    before: [&[u8]; 3],
+    after: [&[u8]; 3],
 ) -> Result<(), AllocError> {
-    let desk = answers(rt, alloc, how, parts_in(before), run)?;
-    has_parts(rt, run, &desk, parts_in(after));
-    let least = how.by("slot=64");
-    let next = ran(
-        rt,
-        alloc,
-        run,
-        &["replay"],
-        least,
-        b"",
-        parts_in(after),
-        SILENT,
-    )?;
-    has_parts(rt, run, &next, parts_in(after));
-    Ok(())
+    answers_leaving(rt, alloc, how, run, before, after)?;
+    answers_leaving(rt, alloc, how.by("slot=64"), "", after, after)
 }
 
 fn check_run(
@@ -109,9 +116,10 @@ fn check_run(
     head: (&str, &str, &str),
 ) -> Result<(), AllocError> {
     let (before, how, after) = head;
+    let how = How::AMPLE.by(how);
     let before = folder_of(alloc, before)?;
     let after = folder_of(alloc, after)?;
-    keeps(rt, alloc, run, How::AMPLE.by(how), &before, &after)
+    keeps(rt, alloc, run, how, parts_in(&before), parts_in(&after))
 }
 
 #[test]
@@ -119,26 +127,6 @@ fn keeps_what_has_room(rt: HostRuntime) -> Result<(), Fail> {
     for run in RUNS.split("\n\n") {
         let head = head_of(run).ok_or("a run has no head")?;
         check_run(&rt, rt.alloc(), run, head)?;
-    }
-    Ok(())
-}
-
-/// What ann's folder is asked, and what it answers, whether or not it was compacted.
-const ASKED: &str = r#"
-1000 {"name":"ann"} -> {"code":20,"name":"Exists"}
-1500 {"identity":"ann"} -> {"bind":[],"dial":[],"routers":[]}
-1000 {"name":"bob"} -> {"no":2}
-1002 {"name":"ann"} -> {}
-1000 {"name":"ann"} -> {"no":3}
-"#;
-
-#[test]
-fn goes_on_with_the_same_replies(rt: HostRuntime) -> Result<(), Fail> {
-    let never = [ANN_SLOT, b"", FIRST];
-    let once = [b"".as_slice(), ANN_SLOT, SECOND];
-    let twice = [ANN_SLOT, b"", b"\0\0\0"];
-    for parts in [never, once, twice] {
-        answers(&rt, rt.alloc(), How::AMPLE, parts, ASKED)?;
     }
     Ok(())
 }

@@ -2,8 +2,8 @@
 //! another path and another one ends, which stops at each moment: both are so, or neither.
 
 use crate::checks::{
-    EMPTY, SILENT, answers, are_bytes, desk_on, has_rows, has_slot, holds, is_status, ran,
-    run_words,
+    COMPACT, EMPTY, Run, answers, answers_leaving, has_rows, holds, leaves, left_at, ran,
+    says_one_of,
 };
 use crate::stops::CHOICES;
 use ctrl_serve::Status;
@@ -23,10 +23,22 @@ const CLOSED_ALONE: &[u8] =
 const GRANT_GONE: &[u8] =
     b"\x01\x21\0\0\0\x02\x05\x07\0\0\0\x01\x02\x09\x0c\0\0\0\x01\0\0\0\x01\x01\x01\x11\x08\0\0\0\x11\0\0\0\0\0\0\0";
 
+/// A run on the folder that has the former record: it is damaged at the closed gate.
+const DAMAGED: Run<'static> = Run {
+    what: "path",
+    words: &["replay"],
+    how: How::AMPLE,
+    input: ANN,
+    ended: (Status::Damaged, b"", b"zitictl: damaged: file 0 at 973\n"),
+};
+
+/// What the folder answers that has the latter one.
+const UNGRANTED: &str = "ON_LINE\n1000 {\"name\":\"bob\"} -> {\"no\":2}\nGONE";
+
 /// A run on the folder of the one before, and the record that it puts behind that one's, with the next serial.
 type Step = (&'static str, &'static [u8]);
 
-const STEPS: [Step; 5] = [
+const STEPS: &[Step] = &[
     // The router r2, and the circuit that then goes over the link 3: the identity, the service, the terminator and the ingress are each the first.
     (
         "ON_LINE CLOSED ON_DEAR_LINK",
@@ -54,84 +66,71 @@ const STEPS: [Step; 5] = [
     ),
 ];
 
-// A desk whose folder keeps the circuit on the line, and the dear link.
-fn network(rt: &impl Abort, alloc: Global) -> Result<MemDesk, AllocError> {
-    let text = "PAIR ENTRY LINE OVER_LINE DEAR_LINK";
-    answers(rt, alloc, How::AMPLE, EMPTY, text)
+// The slot that keeps the circuit on the line, and the dear link.
+fn network(rt: &impl Abort, alloc: Global) -> Result<Vec<u8>, AllocError> {
+    let desk = answers(rt, alloc, EMPTY, "PAIR ENTRY LINE OVER_LINE DEAR_LINK")?;
+    Vec::from_slice(alloc, desk.part(Part::Zero))
 }
 
-// The desk's first slot with one record more.
-fn with_record(alloc: Global, desk: &MemDesk, record: &[u8]) -> Result<Vec<u8>, AllocError> {
-    let slot = desk.part(Part::Zero);
-    let mut longer = Vec::from_slice(
-        alloc,
-        slot.get(..slot.len().saturating_sub(1)).unwrap_or(b""),
-    )?;
+// A slot with one record more.
+fn with_record(alloc: Global, slot: &[u8], record: &[u8]) -> Result<Vec<u8>, AllocError> {
+    let mut longer = Vec::from_slice(alloc, slot)?;
+    longer.pop();
     longer.extend_from_slice(record)?;
     longer.push(0)?;
     Ok(longer)
 }
 
-// A step on a desk's folder. Answers another desk, which has the folder as it is behind the step.
+// The rows of a step are answered on a slot, and leave a longer one.
+fn lengthens(
+    rt: &impl Abort,
+    alloc: Global,
+    rows: &str,
+    slot: &[u8],
+    longer: &[u8],
+) -> Result<(), AllocError> {
+    let (before, behind) = ([slot, b"", FIRST], [longer, b"", FIRST]);
+    answers_leaving(rt, alloc, How::AMPLE, rows, before, behind)
+}
+
+// A step on a slot, which is then the longer one.
 fn steps(
     rt: &impl Abort,
     alloc: Global,
-    desk: &MemDesk,
+    slot: &mut Vec<u8>,
     step: &Step,
-) -> Result<MemDesk, AllocError> {
+) -> Result<(), AllocError> {
     let (rows, record) = *step;
-    let slot = with_record(alloc, desk, record)?;
-    let next = answers(rt, alloc, How::AMPLE, parts_of(desk), rows)?;
-    has_slot(rt, rows, &next, slot.as_slice());
-    Ok(next)
-}
-
-#[test]
-fn keeps_the_path_that_a_circuit_goes_over(rt: HostRuntime) -> Result<(), Fail> {
-    let mut desk = network(&rt, rt.alloc())?;
-    for step in &STEPS {
-        desk = steps(&rt, rt.alloc(), &desk, step)?;
-    }
+    let longer = with_record(alloc, slot.as_slice(), record)?;
+    lengthens(rt, alloc, rows, slot.as_slice(), longer.as_slice())?;
+    *slot = longer;
     Ok(())
 }
 
 // A folder in which a circuit's path has failed keeps no valid state, though there is another path: none is found for it as it opens.
 fn opens_to_nothing(rt: &impl Abort, alloc: Global, slot: &[u8]) -> Result<(), AllocError> {
-    let parts = [slot, b"", FIRST];
-    let gate = slot.len().saturating_sub(1);
-    let noted = format!(in alloc; "zitictl: damaged: file 0 at {gate}\n")?;
-    let ended = (Status::Damaged, b"".as_slice(), noted.as_bytes());
-    let desk = ran(
-        rt,
-        alloc,
-        "path",
-        &["replay"],
-        How::AMPLE,
-        ANN,
-        parts,
-        ended,
-    )?;
-    has_slot(rt, "path", &desk, slot);
-    Ok(())
-}
-
-#[test]
-fn opens_to_no_circuit_without_its_path(rt: HostRuntime) -> Result<(), Fail> {
-    let desk = network(&rt, rt.alloc())?;
-    let slot = with_record(rt.alloc(), &desk, CLOSED_ALONE)?;
-    opens_to_nothing(&rt, rt.alloc(), slot.as_slice())?;
-    Ok(())
+    let slot = with_record(alloc, slot, CLOSED_ALONE)?;
+    let parts = [slot.as_slice(), b"", FIRST];
+    leaves(rt, alloc, &DAMAGED, parts, parts)
 }
 
 // A folder in which a circuit stands that nothing grants opens as it is: the circuit is shown, and ends with the first command that
 // changes something.
-#[test]
-fn ends_a_circuit_that_nothing_grants_at_the_first_change(rt: HostRuntime) -> Result<(), Fail> {
-    let desk = network(&rt, rt.alloc())?;
-    let slot = with_record(rt.alloc(), &desk, GRANT_GONE)?;
+fn ends_ungranted(rt: &impl Abort, alloc: Global, slot: &[u8]) -> Result<(), AllocError> {
+    let slot = with_record(alloc, slot, GRANT_GONE)?;
     let parts = [slot.as_slice(), b"", FIRST];
-    let text = "ON_LINE\n1000 {\"name\":\"bob\"} -> {\"no\":2}\nGONE";
-    answers(&rt, rt.alloc(), How::AMPLE, parts, text)?;
+    answers(rt, alloc, parts, UNGRANTED)?;
+    Ok(())
+}
+
+#[test]
+fn keeps_the_path_that_a_circuit_goes_over(rt: HostRuntime) -> Result<(), Fail> {
+    let mut slot = network(&rt, rt.alloc())?;
+    opens_to_nothing(&rt, rt.alloc(), slot.as_slice())?;
+    ends_ungranted(&rt, rt.alloc(), slot.as_slice())?;
+    for step in STEPS {
+        steps(&rt, rt.alloc(), &mut slot, step)?;
+    }
     Ok(())
 }
 
@@ -144,36 +143,23 @@ struct Shown {
 
 // The slot that has the rows of a desk's folder in one record. The first slot of the folder stands.
 fn compacted(rt: &impl Abort, alloc: Global, desk: &MemDesk) -> Result<Vec<u8>, AllocError> {
-    let parts = parts_of(desk);
-    let compact = ran(
-        rt,
-        alloc,
-        "rows",
-        &["compact"],
-        How::AMPLE,
-        b"",
-        parts,
-        SILENT,
-    )?;
+    let compact = ran(rt, alloc, &COMPACT, parts_of(desk))?;
     Vec::from_slice(alloc, compact.part(Part::One))
 }
 
-// Whether a folder of these parts keeps the circuits as they are behind the command. Else it keeps them as they were before.
+// Whether a folder of these parts keeps the circuits as they are behind the command. Else it keeps them as they were before. It has all rows of then too.
 fn is_behind(
     rt: &impl Abort,
     alloc: Global,
     parts: [&[u8]; 3],
+    slots: [&[u8]; 2],
     shown: &Shown,
 ) -> Result<bool, AllocError> {
-    let mut desk = desk_on(alloc, parts, &[])?;
+    let texts = [shown.before.wanted(), shown.behind.wanted()];
     let input = shown.behind.input();
-    let status = run_words(alloc, &["replay"], How::AMPLE, input, &mut desk)?;
-    is_status(rt, "shown", status, Status::Done);
-    let behind = desk.said() == shown.behind.wanted();
-    if !behind {
-        are_bytes(rt, "shown", desk.said(), shown.before.wanted());
-    }
-    Ok(behind)
+    let place = says_one_of(rt, alloc, &["replay"], input, parts, &texts)?;
+    has_rows(rt, alloc, parts, slots.get(place).unwrap_or(&slots[0]))?;
+    Ok(place == 1)
 }
 
 // The folder that a stop leaves has the circuits and all rows of before the command or of behind it; at first the former, and the
@@ -187,15 +173,10 @@ fn stops_at(
     shown: &Shown,
 ) -> Result<bool, AllocError> {
     let [moment, choice] = stop;
-    assert!(rt; moment <= desk.moments());
-    let (images, taken) = desk.stopped(alloc, moment, choice)?;
-    let answered = taken.len() == desk.said().len();
-    holds(rt, "a front", desk.said().starts_with(taken.as_slice()));
-    let behind = is_behind(rt, alloc, parts_in(&images), shown)?;
-    holds(rt, "answered", behind || !answered);
+    let left = left_at(rt, alloc, desk, moment, choice)?;
+    let behind = is_behind(rt, alloc, parts_in(&left.images), slots, shown)?;
+    holds(rt, "answered", behind || left.taken < desk.said().len());
     holds(rt, "at first", moment > 0 || !behind);
-    let slot = if behind { slots[1] } else { slots[0] };
-    has_rows(rt, alloc, parts_in(&images), slot)?;
     Ok(behind)
 }
 
@@ -220,26 +201,34 @@ fn stops_by(
 fn stops(
     rt: &impl Abort,
     alloc: Global,
-    first: &MemDesk,
     desk: &MemDesk,
+    slots: [&[u8]; 2],
     shown: &Shown,
 ) -> Result<(), AllocError> {
-    let before = compacted(rt, alloc, first)?;
-    let behind = compacted(rt, alloc, desk)?;
     holds(rt, "five moments", desk.moments() >= 5);
     for choice in CHOICES {
-        let slots = [before.as_slice(), behind.as_slice()];
         stops_by(rt, alloc, desk, choice, slots, shown)?;
     }
     Ok(())
 }
 
 // Makes the command on a folder that keeps both circuits.
+fn stops_from(
+    rt: &impl Abort,
+    alloc: Global,
+    first: &MemDesk,
+    shown: &Shown,
+) -> Result<(), AllocError> {
+    let before = compacted(rt, alloc, first)?;
+    let desk = answers(rt, alloc, parts_of(first), "SECOND_OFF")?;
+    let behind = compacted(rt, alloc, &desk)?;
+    let slots = [before.as_slice(), behind.as_slice()];
+    stops(rt, alloc, &desk, slots, shown)
+}
+
 fn check_stops(rt: &impl Abort, alloc: Global, shown: &Shown) -> Result<(), AllocError> {
-    let text = "PAIR ENTRY LINE TWO_CIRCUITS";
-    let first = answers(rt, alloc, How::AMPLE, EMPTY, text)?;
-    let desk = answers(rt, alloc, How::AMPLE, parts_of(&first), "SECOND_OFF")?;
-    stops(rt, alloc, &first, &desk, shown)
+    let first = answers(rt, alloc, EMPTY, "PAIR ENTRY LINE TWO_CIRCUITS")?;
+    stops_from(rt, alloc, &first, shown)
 }
 
 fn both_shown(alloc: Global) -> Result<Shown, AllocError> {

@@ -1,6 +1,8 @@
 //! Runs that stop at each moment, by what the stop keeps of what is pending: what the folder then opens to, and how it goes on.
 
-use crate::checks::{ANN_FOLDER, EMPTY, OLD_FOLDER, answers, has_rows, holds, identities_in, ran};
+use crate::checks::{
+    ANN_FOLDER, EMPTY, OLD_FOLDER, Run, answers, has_rows, holds, identities_in, left_at, ran,
+};
 use ctrl_serve::Status;
 use sample_runs::{BOTH_ONCE, BOTH_SLOT, How, Talk, bytes_of, parts_in, parts_of};
 use std::alloc::{AllocError, Global};
@@ -14,6 +16,7 @@ use ziti_desk::MemDesk;
 #[derive(Clone, Copy)]
 struct Trial {
     word: &'static str,
+    words: &'static [&'static str],
     parts: [&'static [u8]; 3],
     rows: &'static str,
     kept: usize,
@@ -35,10 +38,11 @@ const REPLY: usize = 49;
 
 const TOOK: usize = 65;
 
-const TRIALS: [Trial; 7] = [
+const TRIALS: &[Trial] = &[
     // Both are made on an empty folder: each record takes two writes and two syncs, and each reply one say.
     Trial {
         word: "replay",
+        words: &["replay"],
         parts: EMPTY,
         rows: BOTH,
         kept: 0,
@@ -50,6 +54,7 @@ const TRIALS: [Trial; 7] = [
     // Ann's folder is compacted: the other slot is written and synced, the mark too, and the slot that stood is cut.
     Trial {
         word: "compact",
+        words: &["compact"],
         parts: ANN_FOLDER,
         rows: "",
         kept: 1,
@@ -61,6 +66,7 @@ const TRIALS: [Trial; 7] = [
     // Ann's folder of the first format is migrated, by the same calls.
     Trial {
         word: "replay",
+        words: &["replay"],
         parts: OLD_FOLDER,
         rows: "",
         kept: 1,
@@ -72,6 +78,7 @@ const TRIALS: [Trial; 7] = [
     // Behind that bob is made.
     Trial {
         word: "replay",
+        words: &["replay"],
         parts: OLD_FOLDER,
         rows: "1000 {\"name\":\"bob\"} -> {\"no\":2}",
         kept: 1,
@@ -83,6 +90,7 @@ const TRIALS: [Trial; 7] = [
     // Or it is compacted again.
     Trial {
         word: "compact",
+        words: &["compact"],
         parts: OLD_FOLDER,
         rows: "",
         kept: 1,
@@ -94,6 +102,7 @@ const TRIALS: [Trial; 7] = [
     // Both are followed into an empty folder, by the calls that make them there.
     Trial {
         word: "follow",
+        words: &["follow"],
         parts: EMPTY,
         rows: "SHIP_ANN SHIP_BOB_SECOND | TOOK_1 TOOK_2_SECOND",
         kept: 0,
@@ -105,6 +114,7 @@ const TRIALS: [Trial; 7] = [
     // Both take ann's place, in one record in the other slot.
     Trial {
         word: "follow",
+        words: &["follow"],
         parts: ANN_FOLDER,
         rows: "SHIP_BOTH | TOOK_2",
         kept: 1,
@@ -115,8 +125,29 @@ const TRIALS: [Trial; 7] = [
     },
 ];
 
-// The folder that a stop leaves keeps as many identities as before the run and as replies were taken whole, or one more that the run
-// makes. With those that are not kept, which are answered as in a whole run, it has the rows of both.
+// What makes the identities that a folder does not keep, which keeps as many as before the run and as replies were taken whole, or one more that the
+// run makes.
+fn missing_in(rt: &impl Abort, trial: &Trial, answered: usize, kept: usize) -> &'static str {
+    let known = trial.kept.saturating_add(answered);
+    let most = trial.kept.saturating_add(trial.made);
+    let is_next = kept == known.saturating_add(1) && kept <= most;
+    holds(rt, trial.word, kept == known || is_next);
+    MISSING.get(kept).unwrap_or(&"")
+}
+
+// With those that are made then, which are answered as in a whole run, a folder has the rows of both.
+fn makes_both(
+    rt: &impl Abort,
+    alloc: Global,
+    parts: [&[u8]; 3],
+    rows: &str,
+    both: &[u8],
+) -> Result<(), AllocError> {
+    let desk = answers(rt, alloc, parts, rows)?;
+    has_rows(rt, alloc, parts_of(&desk), both)
+}
+
+// So it goes on from the folder that a stop leaves.
 fn goes_on(
     rt: &impl Abort,
     alloc: Global,
@@ -125,16 +156,10 @@ fn goes_on(
     trial: &Trial,
 ) -> Result<(), AllocError> {
     let kept = identities_in(rt, alloc, parts)?;
-    let known = trial.kept.saturating_add(answered);
-    let most = trial.kept.saturating_add(trial.made);
-    let is_next = kept == known.saturating_add(1) && kept <= most;
-    holds(rt, trial.word, kept == known || is_next);
-    let rows = MISSING.get(kept).unwrap_or(&"");
-    let desk = answers(rt, alloc, How::AMPLE, parts, rows)?;
-    has_rows(rt, alloc, parts_of(&desk), trial.both)
+    let rows = missing_in(rt, trial, answered, kept);
+    makes_both(rt, alloc, parts, rows, trial.both)
 }
 
-// What is said up to a stop is a front of what the whole run says.
 fn stops_at(
     rt: &impl Abort,
     alloc: Global,
@@ -143,16 +168,9 @@ fn stops_at(
     choice: u64,
     trial: &Trial,
 ) -> Result<(), AllocError> {
-    assert!(rt; moment <= desk.moments());
-    let (images, taken) = desk.stopped(alloc, moment, choice)?;
-    holds(rt, trial.word, desk.said().starts_with(taken.as_slice()));
-    goes_on(
-        rt,
-        alloc,
-        parts_in(&images),
-        taken.len() / trial.reply.max(1),
-        trial,
-    )
+    let left = left_at(rt, alloc, desk, moment, choice)?;
+    let answered = left.taken / trial.reply.max(1);
+    goes_on(rt, alloc, parts_in(&left.images), answered, trial)
 }
 
 fn stops_by(
@@ -168,29 +186,55 @@ fn stops_by(
     Ok(())
 }
 
-// Makes a run and stops it at each moment, by each choice.
-fn stops(
+// Stops a run on a desk at each moment, by each choice.
+fn stops_on(
     rt: &impl Abort,
     alloc: Global,
     trial: &Trial,
-    input: &[u8],
-    said: &[u8],
+    desk: &MemDesk,
 ) -> Result<(), AllocError> {
-    let ended = (Status::Done, said, b"".as_slice());
-    let (word, parts) = (trial.word, trial.parts);
-    let desk = ran(rt, alloc, word, &[word], How::AMPLE, input, parts, ended)?;
-    holds(rt, word, desk.moments() >= trial.least);
+    holds(rt, trial.word, desk.moments() >= trial.least);
     for choice in CHOICES {
-        stops_by(rt, alloc, &desk, choice, trial)?;
+        stops_by(rt, alloc, desk, choice, trial)?;
     }
     Ok(())
 }
 
+// Makes a run, and stops it.
+fn stops<'x>(
+    rt: &impl Abort,
+    alloc: Global,
+    trial: &Trial,
+    input: &'x [u8],
+    said: &'x [u8],
+) -> Result<(), AllocError> {
+    let run = Run {
+        what: trial.word,
+        words: trial.words,
+        how: How::AMPLE,
+        input,
+        ended: (Status::Done, said, b""),
+    };
+    let desk = ran(rt, alloc, &run, trial.parts)?;
+    stops_on(rt, alloc, trial, &desk)
+}
+
+// Where frames are followed.
+fn check_followed(
+    rt: &impl Abort,
+    alloc: Global,
+    trial: &Trial,
+    shipped: &str,
+    taken: &str,
+) -> Result<(), AllocError> {
+    let input = bytes_of(alloc, shipped)?;
+    let said = bytes_of(alloc, taken)?;
+    stops(rt, alloc, trial, input.as_slice(), said.as_slice())
+}
+
 fn check_trial(rt: &impl Abort, alloc: Global, trial: &Trial) -> Result<(), AllocError> {
     if let Some((shipped, taken)) = trial.rows.split_once(" | ") {
-        let input = bytes_of(alloc, shipped)?;
-        let said = bytes_of(alloc, taken)?;
-        return stops(rt, alloc, trial, input.as_slice(), said.as_slice());
+        return check_followed(rt, alloc, trial, shipped, taken);
     }
     let talk = Talk::of(alloc, trial.rows)?;
     stops(rt, alloc, trial, talk.input(), talk.wanted())
@@ -198,7 +242,7 @@ fn check_trial(rt: &impl Abort, alloc: Global, trial: &Trial) -> Result<(), Allo
 
 #[test]
 fn keeps_both_whatever_is_kept_of_what_is_pending(rt: HostRuntime) -> Result<(), Fail> {
-    for trial in &TRIALS {
+    for trial in TRIALS {
         check_trial(&rt, rt.alloc(), trial)?;
     }
     Ok(())

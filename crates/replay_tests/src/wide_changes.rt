@@ -1,8 +1,7 @@
 //! A change of ten thousand rows that stops at each moment: all of them are found, or none.
 
-use crate::checks::{desk_on, holds, is_status, ran, run_words};
+use crate::checks::{holds, left_at, ran, replay_of, says_one_of};
 use crate::stops::CHOICES;
-use ctrl_serve::Status;
 use sample_runs::{How, Talk, parts_in, wide_folder};
 use std::alloc::{AllocError, Global};
 use std::process::Abort;
@@ -34,17 +33,7 @@ fn are_same(images: &Images, others: &Images) -> bool {
         && images.mark.as_slice() == others.mark.as_slice()
 }
 
-// Whether all rows of the change are counted in a folder, or none.
-fn counts(rt: &impl Abort, alloc: Global, images: &Images) -> Result<bool, AllocError> {
-    let mut desk = desk_on(alloc, parts_in(images), &[])?;
-    let status = run_words(alloc, &["audit"], How::AMPLE, b"", &mut desk)?;
-    is_status(rt, "audit", status, Status::Done);
-    let all = desk.said() == BEHIND;
-    holds(rt, "all or none", all || desk.said() == BEFORE);
-    Ok(all)
-}
-
-// Whether a folder has them all. The bytes that the stop before left are looked at once.
+// Whether a folder has all rows of the change, or none. The bytes that the stop before left are looked at once.
 fn has_all(
     rt: &impl Abort,
     alloc: Global,
@@ -54,7 +43,15 @@ fn has_all(
     if are_same(images, &last.images) {
         return Ok(last.all);
     }
-    counts(rt, alloc, images)
+    let place = says_one_of(
+        rt,
+        alloc,
+        &["audit"],
+        b"",
+        parts_in(images),
+        &[BEFORE, BEHIND],
+    )?;
+    Ok(place == 1)
 }
 
 // The folder that a stop leaves has all the rows or none, and all where the reply was taken.
@@ -66,14 +63,12 @@ fn finds(
     choice: u64,
     last: &mut Found,
 ) -> Result<(), AllocError> {
-    assert!(rt; moment <= desk.moments());
-    let (images, taken) = desk.stopped(alloc, moment, choice)?;
-    holds(rt, "a front", desk.said().starts_with(taken.as_slice()));
-    let answered = taken.len() == desk.said().len();
-    let all = has_all(rt, alloc, &images, last)?;
-    holds(rt, "answered", all || !answered);
+    let left = left_at(rt, alloc, desk, moment, choice)?;
+    let all = has_all(rt, alloc, &left.images, last)?;
+    holds(rt, "answered", all || left.taken < desk.said().len());
     holds(rt, "at first", moment > 0 || !all);
-    *last = Found { images, all };
+    last.images = left.images;
+    last.all = all;
     Ok(())
 }
 
@@ -90,50 +85,25 @@ fn stops_by(rt: &impl Abort, alloc: Global, desk: &MemDesk, choice: u64) -> Resu
     Ok(())
 }
 
-// Makes the change on the folder, in pieces of the input, and stops it at each moment.
-fn stops(
-    rt: &impl Abort,
-    alloc: Global,
-    images: &Images,
-    talk: &Talk,
-    choice: u64,
-) -> Result<(), AllocError> {
-    let parts = parts_in(images);
-    let ended = (Status::Done, talk.wanted(), b"".as_slice());
-    let how = How::AMPLE.by("slot=262144 mark=1");
-    let desk = ran(
-        rt,
-        alloc,
-        "grant",
-        &["replay"],
-        how,
-        talk.input(),
-        parts,
-        ended,
-    )?;
-    stops_by(rt, alloc, &desk, choice)
+// Stops the change at each moment, by each choice.
+fn stops(rt: &impl Abort, alloc: Global, desk: &MemDesk) -> Result<(), AllocError> {
+    for choice in CHOICES {
+        stops_by(rt, alloc, desk, choice)?;
+    }
+    Ok(())
 }
 
-fn check_stops(rt: &impl Abort, alloc: Global, choice: u64) -> Result<(), AllocError> {
-    let images = wide_folder(alloc)?;
+// Makes the change on a folder, and stops it.
+fn changes(rt: &impl Abort, alloc: Global, parts: [&[u8]; 3]) -> Result<(), AllocError> {
     let talk = Talk::of(alloc, GRANT)?;
-    stops(rt, alloc, &images, &talk, choice)
+    let how = How::AMPLE.by("slot=262144 mark=1");
+    let desk = ran(rt, alloc, &replay_of("grant", how, &talk), parts)?;
+    stops(rt, alloc, &desk)
 }
 
 #[test]
-fn finds_all_or_none_where_nothing_pending_is_kept(rt: HostRuntime) -> Result<(), Fail> {
-    check_stops(&rt, rt.alloc(), CHOICES[0])?;
-    Ok(())
-}
-
-#[test]
-fn finds_all_or_none_where_all_pending_is_kept(rt: HostRuntime) -> Result<(), Fail> {
-    check_stops(&rt, rt.alloc(), CHOICES[1])?;
-    Ok(())
-}
-
-#[test]
-fn finds_all_or_none_where_some_pending_is_kept(rt: HostRuntime) -> Result<(), Fail> {
-    check_stops(&rt, rt.alloc(), CHOICES[2])?;
+fn finds_all_or_none_whatever_is_kept_of_what_is_pending(rt: HostRuntime) -> Result<(), Fail> {
+    let images = wide_folder(rt.alloc())?;
+    changes(&rt, rt.alloc(), parts_in(&images))?;
     Ok(())
 }

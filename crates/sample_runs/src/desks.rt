@@ -2,12 +2,17 @@ use std::alloc::{AllocError, Global};
 use ziti_desk::{Images, MemDesk, MemSource, Room};
 use ziti_outside::Part;
 
+// Puts these bytes into the parts of a folder.
+fn fill(images: &mut Images, parts: [&[u8]; 3]) -> Result<(), AllocError> {
+    images.zero.extend_from_slice(parts[0])?;
+    images.one.extend_from_slice(parts[1])?;
+    images.mark.extend_from_slice(parts[2])
+}
+
 // A folder whose parts have these bytes.
 fn images_of(alloc: Global, parts: [&[u8]; 3]) -> Result<Images, AllocError> {
     let mut images = Images::empty(alloc);
-    images.zero.extend_from_slice(parts[0])?;
-    images.one.extend_from_slice(parts[1])?;
-    images.mark.extend_from_slice(parts[2])?;
+    fill(&mut images, parts)?;
     Ok(images)
 }
 
@@ -41,6 +46,15 @@ pub fn desk_of(
     MemDesk::new(alloc, images_of(alloc, parts)?, room, failing)
 }
 
+// Some bytes in pieces of so many, at least one.
+fn pieces_of(alloc: Global, bytes: &[u8], piece: usize) -> Result<Vec<Vec<u8>>, AllocError> {
+    let mut pieces = Vec::new(alloc);
+    for piece in bytes.chunks(piece.max(1)) {
+        pieces.push(Vec::from_slice(alloc, piece)?)?;
+    }
+    Ok(pieces)
+}
+
 /// The source of these bytes in pieces of so many, at least one, which fails at these calls, counted from 0.
 pub fn source_of(
     alloc: Global,
@@ -48,11 +62,8 @@ pub fn source_of(
     piece: usize,
     failing: &[u32],
 ) -> Result<MemSource, AllocError> {
-    let mut pieces = Vec::new(alloc);
-    for piece in bytes.chunks(piece.max(1)) {
-        pieces.push(Vec::from_slice(alloc, piece)?)?;
-    }
     let failing = Vec::from_slice(alloc, failing)?;
+    let pieces = pieces_of(alloc, bytes, piece)?;
     Ok(MemSource::new(pieces, failing))
 }
 

@@ -44,12 +44,13 @@ fn is_refusal(body: &str) -> bool {
     body.starts_with("{\"code\"") || body.starts_with("{\"at\"")
 }
 
+/// The headers of a reply to such a request, up to whether it is no refusal.
+const REPLY_HEADERS: &[u8] = b"\x01\0\0\0\x04\0\0\0\x07\0\0\0\x02\0\0\0\x01\0\0\0";
+
 /// Puts the frame of a reply to such a request behind the others: with the request's number, and whether it is no refusal.
 pub fn push_reply(bytes: &mut Vec<u8>, sequence: u32, body: &str) -> Result<(), AllocError> {
     push_head(bytes, 2, sequence, 21, body)?;
-    bytes.extend_from_slice(b"\x01\0\0\0\x04\0\0\0")?;
-    push_number(bytes, REQUEST)?;
-    bytes.extend_from_slice(b"\x02\0\0\0\x01\0\0\0")?;
-    bytes.push(u8::from(!is_refusal(body)))?;
+    bytes.extend_from_slice(REPLY_HEADERS)?;
+    bytes.extend_from_slice(&[u8::from(!is_refusal(body))])?;
     bytes.extend_from_slice(body.as_bytes())
 }

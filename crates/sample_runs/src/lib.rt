@@ -1,5 +1,5 @@
 //! What tests of whole runs share: frames of requests and replies, laid out by hand, rows of them as text, parts by name, two examples, a small network
-//! and a realistic one, slots of records and folders of them, sources and desks over memory, and files of the system that record what is asked of them.
+//! and a realistic one, folders by their parts, sources and desks over memory, and files of the system that record what is asked of them.
 #![tactic(auto)]
 
 mod desks;
@@ -10,6 +10,7 @@ mod models;
 mod networks;
 mod parts;
 mod recording;
+mod repeating;
 mod slots;
 mod talks;
 mod wide;
@@ -20,9 +21,6 @@ pub use how::How;
 pub use models::model;
 pub use parts::{bytes_of, folder_of, notes_of};
 pub use recording::{Asked, Calls, NONE_FAILS, Name, Recorded, RecordedFile, Spoken};
-pub use slots::{
-    ANN_ALONE, ANN_KEPT, ANN_SLOT, BOB_KEPT, BOTH, BOTH_ONCE, BOTH_SLOT, FIRST, GRANT_KEPT,
-    NOTHING, OLD_ANN, SECOND, WEB_KEPT, slot_of,
-};
+pub use slots::{ANN_ALONE, ANN_SLOT, BOTH, BOTH_ONCE, BOTH_SLOT, FIRST, NOTHING, OLD_ANN, SECOND};
 pub use talks::Talk;
 pub use wide::wide_folder;

@@ -54,7 +54,7 @@ const SQUARE: &str = r##"
 "##;
 
 /// The texts by their names, which stand for them in other texts.
-pub(crate) const TEXTS: [(&str, &str); 17] = [
+pub(crate) const TEXTS: &[(&str, &str)] = &[
     ("SMALL_NETWORK", SMALL_NETWORK),
     ("CLAIMS", CLAIMS),
     ("PAIR", PAIR),
@@ -104,4 +104,9 @@ pub(crate) const TEXTS: [(&str, &str); 17] = [
         r#"1503 {"no":2} -> {"code":21,"field":"no","name":"Unknown"}"#,
     ),
     ("SECOND_OFF", r#"1024 {"name":"r2"} -> {}"#),
+    // An identity gets an attribute, and loses it.
+    (
+        "TAKES_TURNS",
+        "1001 {\"name\":\"u1\",\"attributes\":[\"a\",\"x\"]} -> {}\n1001 {\"name\":\"u1\",\"attributes\":[\"a\"]} -> {}",
+    ),
 ];

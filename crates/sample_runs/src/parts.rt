@@ -9,7 +9,7 @@ use std::alloc::{AllocError, Global};
 use ziti_desk::Images;
 
 /// Parts that have names elsewhere too.
-const KNOWN: [(&str, &[u8]); 17] = [
+const KNOWN: &[(&str, &[u8])] = &[
     ("ANN", ANN),
     ("MADE", MADE),
     ("EXISTS", EXISTS),
@@ -116,6 +116,9 @@ GRANT_CLOSED \0\x41\0\0\0\x01\x02\x01\x05\x04\0\0\0\x02\0\0\0\x01\x05\x07\0\0\0\
 # The record of the policy with a count of two, and one that deletes a second identity.
 GRANT_TWICE \x01\x41\0\0\0\x01\x02\x01\x05\x04\0\0\0\x02\0\0\0\x01\x05\x07\0\0\0\x01\x0a\0\0\0\x01p\x01\x01\x01\0\0\x01\0\0\x01\x09\x0c\0\0\0\x01\0\0\0\x01\x02\0\0\0\x02\0\x01\x01\x11\x08\0\0\0\x03\0\0\0\0\0\0\0
 BOB_GOES \x01\x16\0\0\0\x02\x05\x03\0\0\0\x02\x01\x01\x11\x08\0\0\0\x02\0\0\0\0\0\0\0
+# Behind ann and bob, the record that deletes ann, with the serial 3, and that of another ann, with the serial 4.
+ANN_GOES \x01\x16\0\0\0\x02\x05\x03\0\0\0\x01\x01\x01\x11\x08\0\0\0\x03\0\0\0\0\0\0\0
+ANN_FOURTH \x01\x2b\0\0\0\x01\x02\x01\x01\x04\0\0\0\x04\0\0\0\x01\x05\x03\0\0\0\x03\x05\0\0\0\x03ann\0\x01\x01\x11\x08\0\0\0\x04\0\0\0\0\0\0\0
 # The record of the router r1, the one behind which it is connected, and that of the next number of identities alone.
 ROUTER_KEPT \x01\x2d\0\0\0\x01\x02\x01\x03\x04\0\0\0\x02\0\0\0\x01\x05\x05\0\0\0\x01\x07\0\0\0\x02r1\0\0\0\0\x01\x01\x11\x08\0\0\0\x01\0\0\0\0\0\0\0
 CONNECTED_KEPT \x01\x21\0\0\0\x01\x05\x05\0\0\0\x01\x07\0\0\0\x02r1\0\0\0\x02\x01\x01\x11\x08\0\0\0\x02\0\0\0\0\0\0\0
@@ -144,12 +147,39 @@ SHIP_BOTH \x03\x06\x09\x0c\x6c\x07\0\0\0\0\0\0\x28\0\0\0\x3b\0\0\0\xe8\x03\0\0\x
 TOOK_1 \x03\x06\x09\x0c\x02\0\0\0\0\0\0\0\x15\0\0\0\x18\0\0\0\x01\0\0\0\x04\0\0\0\0\0\0\0\x02\0\0\0\x01\0\0\0\x01{"own":1,"taken":"Took"}
 TOOK_2 \x03\x06\x09\x0c\x02\0\0\0\0\0\0\0\x15\0\0\0\x18\0\0\0\x01\0\0\0\x04\0\0\0\0\0\0\0\x02\0\0\0\x01\0\0\0\x01{"own":2,"taken":"Took"}
 TOOK_2_SECOND \x03\x06\x09\x0c\x02\0\0\0\x01\0\0\0\x15\0\0\0\x18\0\0\0\x01\0\0\0\x04\0\0\0\x01\0\0\0\x02\0\0\0\x01\0\0\0\x01{"own":2,"taken":"Took"}
+# More of them: the Next of web as the first and as the third one; of ann's folder of the first format, the Whole of the serial 0, whose rows have no serial,
+# and behind its migration the Next of bob as the first and as the second one; and the Whole of OLD_GRANTED, in which counts have two bytes.
+SHIP_WEB \x03\x06\x09\x0c\x6d\x07\0\0\0\0\0\0\x28\0\0\0\x2b\0\0\0\xe8\x03\0\0\x08\0\0\0\x03\0\0\0\0\0\0\0\xe9\x03\0\0\x04\0\0\0\0\0\0\0\xea\x03\0\0\x04\0\0\0\x01\0\0\0\x01\x02\x01\x02\x04\0\0\0\x02\0\0\0\x01\x05\x04\0\0\0\x01\x05\0\0\0\x03web\0\x01\x01\x11\x08\0\0\0\x03\0\0\0\0\0\0\0
+SHIP_WEB_THIRD \x03\x06\x09\x0c\x6d\x07\0\0\x02\0\0\0\x28\0\0\0\x2b\0\0\0\xe8\x03\0\0\x08\0\0\0\x03\0\0\0\0\0\0\0\xe9\x03\0\0\x04\0\0\0\0\0\0\0\xea\x03\0\0\x04\0\0\0\x01\0\0\0\x01\x02\x01\x02\x04\0\0\0\x02\0\0\0\x01\x05\x04\0\0\0\x01\x05\0\0\0\x03web\0\x01\x01\x11\x08\0\0\0\x03\0\0\0\0\0\0\0
+SHIP_OLD_ANN \x03\x06\x09\x0c\x6c\x07\0\0\0\0\0\0\x28\0\0\0\x1c\0\0\0\xe8\x03\0\0\x08\0\0\0\0\0\0\0\0\0\0\0\xe9\x03\0\0\x04\0\0\0\0\0\0\0\xea\x03\0\0\x04\0\0\0\x01\0\0\0\x01\x02\x01\x01\x04\0\0\0\x02\0\0\0\x01\x05\x03\0\0\0\x01\x05\0\0\0\x03ann\0
+SHIP_NEW_BOB \x03\x06\x09\x0c\x6d\x07\0\0\0\0\0\0\x28\0\0\0\x2b\0\0\0\xe8\x03\0\0\x08\0\0\0\x01\0\0\0\0\0\0\0\xe9\x03\0\0\x04\0\0\0\0\0\0\0\xea\x03\0\0\x04\0\0\0\x01\0\0\0\x01\x02\x01\x01\x04\0\0\0\x03\0\0\0\x01\x05\x03\0\0\0\x02\x05\0\0\0\x03bob\0\x01\x01\x11\x08\0\0\0\x01\0\0\0\0\0\0\0
+SHIP_NEW_BOB_SECOND \x03\x06\x09\x0c\x6d\x07\0\0\x01\0\0\0\x28\0\0\0\x2b\0\0\0\xe8\x03\0\0\x08\0\0\0\x01\0\0\0\0\0\0\0\xe9\x03\0\0\x04\0\0\0\0\0\0\0\xea\x03\0\0\x04\0\0\0\x01\0\0\0\x01\x02\x01\x01\x04\0\0\0\x03\0\0\0\x01\x05\x03\0\0\0\x02\x05\0\0\0\x03bob\0\x01\x01\x11\x08\0\0\0\x01\0\0\0\0\0\0\0
+SHIP_OLD_GRANTED \x03\x06\x09\x0c\x6c\x07\0\0\0\0\0\0\x28\0\0\0\x6a\0\0\0\xe8\x03\0\0\x08\0\0\0\0\0\0\0\0\0\0\0\xe9\x03\0\0\x04\0\0\0\0\0\0\0\xea\x03\0\0\x04\0\0\0\x01\0\0\0\x01\x02\x01\x01\x04\0\0\0\x02\0\0\0\x01\x02\x01\x02\x04\0\0\0\x02\0\0\0\x01\x02\x01\x05\x04\0\0\0\x02\0\0\0\x01\x05\x03\0\0\0\x01\x05\0\0\0\x03ann\0\x01\x05\x04\0\0\0\x01\x05\0\0\0\x03web\0\x01\x05\x07\0\0\0\x01\x0a\0\0\0\x01p\x01\x01\x01\0\0\x01\0\0\x01\x09\x0c\0\0\0\x01\0\0\0\x01\x02\0\0\0\x01\0
+# A folder's slot of the first format that keeps ann, web and the policy by which all may dial all, in three records.
+OLD_GRANTED ZCTL\x01\0\0\0\x01\x1c\0\0\0\x01\x02\x01\x01\x04\0\0\0\x02\0\0\0\x01\x05\x03\0\0\0\x01\x05\0\0\0\x03ann\0\x01\x1c\0\0\0\x01\x02\x01\x02\x04\0\0\0\x02\0\0\0\x01\x05\x04\0\0\0\x01\x05\0\0\0\x03web\0\x01\x34\0\0\0\x01\x02\x01\x05\x04\0\0\0\x02\0\0\0\x01\x05\x07\0\0\0\x01\x0a\0\0\0\x01p\x01\x01\x01\0\0\x01\0\0\x01\x09\x0c\0\0\0\x01\0\0\0\x01\x04\0\0\0\x01\0\0\0\0
+# Batches: of ann and of bob with the serials 1 and 2, and of bob with the serial 3; ann's with another name, with an attribute, and without a serial, as behind
+# a migration; one that deletes what is not there; bob without the next number; one that puts ann as she is; and both in one with the serials 2 and 9.
+BATCH_ANN \x01\x02\x01\x01\x04\0\0\0\x02\0\0\0\x01\x05\x03\0\0\0\x01\x05\0\0\0\x03ann\0\x01\x01\x11\x08\0\0\0\x01\0\0\0\0\0\0\0
+BATCH_BOB \x01\x02\x01\x01\x04\0\0\0\x03\0\0\0\x01\x05\x03\0\0\0\x02\x05\0\0\0\x03bob\0\x01\x01\x11\x08\0\0\0\x02\0\0\0\0\0\0\0
+BATCH_BOB_THIRD \x01\x02\x01\x01\x04\0\0\0\x03\0\0\0\x01\x05\x03\0\0\0\x02\x05\0\0\0\x03bob\0\x01\x01\x11\x08\0\0\0\x03\0\0\0\0\0\0\0
+BATCH_ANM \x01\x02\x01\x01\x04\0\0\0\x02\0\0\0\x01\x05\x03\0\0\0\x01\x05\0\0\0\x03anm\0\x01\x01\x11\x08\0\0\0\x01\0\0\0\0\0\0\0
+BATCH_TAGGED \x01\x02\x01\x01\x04\0\0\0\x02\0\0\0\x01\x05\x03\0\0\0\x01\x07\0\0\0\x03ann\x01\x01a\x01\x01\x11\x08\0\0\0\x01\0\0\0\0\0\0\0
+BATCH_UNCOUNTED \x01\x02\x01\x01\x04\0\0\0\x02\0\0\0\x01\x05\x03\0\0\0\x01\x05\0\0\0\x03ann\0
+BATCH_GOES \x02\x05\x03\0\0\0\x09\x01\x01\x11\x08\0\0\0\x01\0\0\0\0\0\0\0
+BATCH_UNNUMBERED \x01\x05\x03\0\0\0\x02\x05\0\0\0\x03bob\0\x01\x01\x11\x08\0\0\0\x02\0\0\0\0\0\0\0
+BATCH_EQUAL \x01\x05\x03\0\0\0\x01\x05\0\0\0\x03ann\0\x01\x01\x11\x08\0\0\0\x02\0\0\0\0\0\0\0
+BATCH_BOTH \x01\x02\x01\x01\x04\0\0\0\x03\0\0\0\x01\x05\x03\0\0\0\x01\x05\0\0\0\x03ann\0\x01\x05\x03\0\0\0\x02\x05\0\0\0\x03bob\0\x01\x01\x11\x08\0\0\0\x02\0\0\0\0\0\0\0
+BATCH_BOTH_NINTH \x01\x02\x01\x01\x04\0\0\0\x03\0\0\0\x01\x05\x03\0\0\0\x01\x05\0\0\0\x03ann\0\x01\x05\x03\0\0\0\x02\x05\0\0\0\x03bob\0\x01\x01\x11\x08\0\0\0\x09\0\0\0\0\0\0\0
+# The headers of a Next of the serial 2 whose count stands twice, 7 and then 1; those of it without a count; and those of it with a serial of four bytes.
+COUNT_TWICE \xe8\x03\0\0\x08\0\0\0\x02\0\0\0\0\0\0\0\xe9\x03\0\0\x04\0\0\0\0\0\0\0\xea\x03\0\0\x04\0\0\0\x07\0\0\0\xea\x03\0\0\x04\0\0\0\x01\0\0\0
+NO_COUNT \xe8\x03\0\0\x08\0\0\0\x02\0\0\0\0\0\0\0\xe9\x03\0\0\x04\0\0\0\0\0\0\0
+SHORT_SERIAL \xe8\x03\0\0\x04\0\0\0\x02\0\0\0\xe9\x03\0\0\x04\0\0\0\0\0\0\0\xea\x03\0\0\x04\0\0\0\x01\0\0\0
 "##;
 
 // The bytes of a part that has a name elsewhere.
 fn known_part(name: &str) -> Option<&'static [u8]> {
     for (known, part) in KNOWN {
-        if known == name {
+        if *known == name {
             return Some(part);
         }
     }
@@ -244,25 +274,35 @@ pub fn bytes_of(alloc: Global, parts: &str) -> Result<Vec<u8>, AllocError> {
     Ok(bytes)
 }
 
-/// A folder by its parts, the first slot, the second one and the mark, between which there is a space.
-pub fn folder_of(alloc: Global, parts: &str) -> Result<Images, AllocError> {
-    let mut images = Images::empty(alloc);
+// Puts the parts of a folder behind the bytes of some.
+fn push_parts(images: &mut Images, parts: &str) -> Result<(), AllocError> {
     let (zero, rest) = parts.split_once(' ').unwrap_or((parts, "-"));
     let (one, mark) = rest.split_once(' ').unwrap_or((rest, "-"));
     push_part(&mut images.zero, zero)?;
     push_part(&mut images.one, one)?;
-    push_part(&mut images.mark, mark)?;
+    push_part(&mut images.mark, mark)
+}
+
+/// A folder by its parts, the first slot, the second one and the mark, between which there is a space.
+pub fn folder_of(alloc: Global, parts: &str) -> Result<Images, AllocError> {
+    let mut images = Images::empty(alloc);
+    push_parts(&mut images, parts)?;
     Ok(images)
+}
+
+// Puts a line of a note behind the others.
+fn push_note(bytes: &mut Vec<u8>, note: &str) -> Result<(), AllocError> {
+    bytes.extend_from_slice(b"zitictl: ")?;
+    bytes.extend_from_slice(note.as_bytes())?;
+    bytes.extend_from_slice(b"\n")
 }
 
 /// The lines of notes, each of which begins with the program's name. `; ` stands between them, and `-` for none.
 pub fn notes_of(alloc: Global, notes: &str) -> Result<Vec<u8>, AllocError> {
     let mut bytes = Vec::new(alloc);
-    for note in notes.split("; ") {
-        if note != "-" {
-            bytes.extend_from_slice(b"zitictl: ")?;
-            bytes.extend_from_slice(note.as_bytes())?;
-            bytes.push(b'\n')?;
+    if notes != "-" {
+        for note in notes.split("; ") {
+            push_note(&mut bytes, note)?;
         }
     }
     Ok(bytes)

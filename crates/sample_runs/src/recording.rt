@@ -2,8 +2,11 @@
 
 use std::alloc::{AllocError, Allocator, Global};
 use std::cell::RefCell;
-use std::fs::{Metadata, OpenFile, OpenOptions};
-use std::io::{self, ErrorKind, Read, Seek, SeekFrom, Write};
+use std::fs::{Metadata, OpenFile, OpenOptions, Permissions};
+use std::io::{self, ErrorKind, PipeReader, PipeWriter, Read, Seek, SeekFrom, Write};
+use std::os::fd::BorrowedFd;
+use std::os::unix::net::SocketAddr;
+use std::path::PathBuf;
 use std::rt::Files;
 
 /// What a path names: the folder or one of its files.
@@ -168,6 +171,46 @@ impl<'c, R: Files> Files for Recorded<'c, R> {
     }
 
     fn remove_dir_all<B: Allocator>(&self, _alloc: B, _path: &str) -> io::Result<()> {
+        unsupported()
+    }
+
+    fn canonicalize<B: Allocator>(&self, _alloc: B, _path: &str) -> io::Result<PathBuf<B>> {
+        unsupported()
+    }
+
+    fn read_link<B: Allocator>(&self, _alloc: B, _path: &str) -> io::Result<PathBuf<B>> {
+        unsupported()
+    }
+
+    fn hard_link(&self, _original: &str, _link: &str) -> io::Result<()> {
+        unsupported()
+    }
+
+    fn set_permissions(&self, _path: &str, _perm: Permissions) -> io::Result<()> {
+        unsupported()
+    }
+
+    fn symlink(&self, _original: &str, _link: &str) -> io::Result<()> {
+        unsupported()
+    }
+
+    fn pipe(&self) -> io::Result<(PipeReader, PipeWriter)> {
+        unsupported()
+    }
+
+    fn chown(&self, _path: &str, _uid: Option<u32>, _gid: Option<u32>) -> io::Result<()> {
+        unsupported()
+    }
+
+    fn lchown(&self, _path: &str, _uid: Option<u32>, _gid: Option<u32>) -> io::Result<()> {
+        unsupported()
+    }
+
+    fn create_dir_with_mode(&self, _path: &str, _mode: u32) -> io::Result<()> {
+        unsupported()
+    }
+
+    fn bind_unix(&self, _socket: BorrowedFd<'_>, _addr: &SocketAddr) -> io::Result<()> {
         unsupported()
     }
 }

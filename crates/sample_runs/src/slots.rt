@@ -1,5 +1,3 @@
-use std::alloc::{AllocError, Global};
-
 /// The header of a slot.
 pub const HEADER: &[u8] = b"ZCTL\x02\0\0\0";
 
@@ -54,13 +52,3 @@ pub const ANN_ALONE: &[u8] =
 
 pub const BOTH: &[u8] =
     b"{\"circuits\":0,\"grants\":0,\"identities\":2,\"links\":0,\"policies\":0,\"routers\":0,\"services\":0,\"terminators\":0}\n";
-
-/// A slot of these records.
-pub fn slot_of(alloc: Global, records: &[&[u8]]) -> Result<Vec<u8>, AllocError> {
-    let mut slot = Vec::from_slice(alloc, HEADER)?;
-    for record in records {
-        slot.extend_from_slice(record)?;
-    }
-    slot.push(0)?;
-    Ok(slot)
-}

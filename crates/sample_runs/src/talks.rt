@@ -2,6 +2,7 @@
 
 use crate::frames::{push_reply, push_request};
 use crate::networks::TEXTS;
+use crate::repeating::{filled, range_of};
 use std::alloc::{AllocError, Global};
 
 /// Frames, and the replies that are wanted to them, which count from 0.
@@ -16,7 +17,7 @@ pub struct Talk {
 // The text that has a name, or none.
 fn text_of(name: &str) -> &'static str {
     for (known, text) in TEXTS {
-        if known == name {
+        if *known == name {
             return text;
         }
     }
@@ -31,30 +32,17 @@ fn row_of(line: &str) -> Option<(u32, &str, &str)> {
 }
 
 impl Talk {
-    /// No frame yet.
-    pub fn new(alloc: Global) -> Talk {
-        Talk {
+    /// The frames and replies of a text. Each line is a row, `CONTENT BODY -> REPLY`, or has the names of texts of rows, which stand in its place. Behind
+    /// `each 1..41 ` it is repeated for the numbers from a first one to before a last one, each of which stands in it between two `$`, behind some steps,
+    /// as `$%4 +9$`. Or it begins with `#` and is for the reader.
+    pub fn of(alloc: Global, text: &str) -> Result<Talk, AllocError> {
+        let mut talk = Talk {
             alloc,
             input: Vec::new(alloc),
             wanted: Vec::new(alloc),
             replies: 0,
-        }
-    }
-
-    /// The frames and replies of a text. Each line is a row, `CONTENT BODY -> REPLY`, or has the names of texts of rows, which stand in its place; or
-    /// it begins with `#` and is for the reader.
-    pub fn of(alloc: Global, text: &str) -> Result<Talk, AllocError> {
-        let mut talk = Talk::new(alloc);
+        };
         talk.put_text(text)?;
-        Ok(talk)
-    }
-
-    /// The frames of some texts, one behind the other.
-    pub fn joined(alloc: Global, texts: &[&str]) -> Result<Talk, AllocError> {
-        let mut talk = Talk::new(alloc);
-        for text in texts {
-            talk.put_text(text)?;
-        }
         Ok(talk)
     }
 
@@ -68,18 +56,12 @@ impl Talk {
         self.wanted.as_slice()
     }
 
-    /// Puts a frame behind the others, with the body of its reply.
-    pub fn put(&mut self, content: u32, body: &str, reply: &str) -> Result<(), AllocError> {
+    // Puts a frame behind the others, with the body of its reply.
+    fn put(&mut self, content: u32, body: &str, reply: &str) -> Result<(), AllocError> {
         push_request(&mut self.input, content, body)?;
         push_reply(&mut self.wanted, self.replies, reply)?;
         self.replies = self.replies.wrapping_add(1);
         Ok(())
-    }
-
-    /// Puts a frame that makes what gets a number.
-    pub fn put_made(&mut self, content: u32, body: &str, number: u32) -> Result<(), AllocError> {
-        let reply = format!(in self.alloc; "{{\"no\":{number}}}")?;
-        self.put(content, body, reply.as_str())
     }
 
     // Puts a row. What is no row becomes a frame that is answered otherwise, so that the run fails.
@@ -107,14 +89,32 @@ impl Talk {
         Ok(())
     }
 
-    fn put_line(&mut self, line: &str) -> Result<(), AllocError> {
-        if line.starts_with('#') {
-            return Ok(());
-        }
+    // Puts the row of a line, or those of the texts that it names.
+    fn put_plain(&mut self, line: &str) -> Result<(), AllocError> {
         if line.contains(" -> ") {
             return self.put_row(line);
         }
         self.put_named(line)
+    }
+
+    // Puts a line for each of some numbers.
+    fn put_each(&mut self, repeated: &str) -> Result<(), AllocError> {
+        let (numbers, line) = repeated.split_once(' ').unwrap_or((repeated, ""));
+        for number in range_of(numbers) {
+            let line = filled(self.alloc, line, number)?;
+            self.put_plain(line.as_str())?;
+        }
+        Ok(())
+    }
+
+    fn put_line(&mut self, line: &str) -> Result<(), AllocError> {
+        if line.starts_with('#') {
+            return Ok(());
+        }
+        match line.strip_prefix("each ") {
+            Some(repeated) => self.put_each(repeated),
+            None => self.put_plain(line),
+        }
     }
 
     // Puts the rows of a text.

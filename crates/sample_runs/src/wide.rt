@@ -56,15 +56,24 @@ fn first_rows(alloc: Global) -> Result<Vec<u8>, AllocError> {
     Ok(batch)
 }
 
+// Puts the slot that has these rows in one record.
+fn push_slot(slot: &mut Vec<u8>, batch: &[u8]) -> Result<(), AllocError> {
+    slot.extend_from_slice(HEADER)?;
+    slot.extend_from_slice(&[1])?;
+    push_len(slot, batch.len())?;
+    slot.extend_from_slice(batch)?;
+    slot.extend_from_slice(&[0])
+}
+
+fn push_folder(images: &mut Images, batch: &[u8]) -> Result<(), AllocError> {
+    images.mark.extend_from_slice(FIRST)?;
+    push_slot(&mut images.zero, batch)
+}
+
 /// The folder that keeps them in one record.
 pub fn wide_folder(alloc: Global) -> Result<Images, AllocError> {
     let batch = first_rows(alloc)?;
     let mut images = Images::empty(alloc);
-    images.zero.extend_from_slice(HEADER)?;
-    images.zero.push(1)?;
-    push_len(&mut images.zero, batch.len())?;
-    images.zero.extend_from_slice(batch.as_slice())?;
-    images.zero.push(0)?;
-    images.mark.extend_from_slice(FIRST)?;
+    push_folder(&mut images, batch.as_slice())?;
     Ok(images)
 }
