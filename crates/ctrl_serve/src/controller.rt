@@ -198,7 +198,9 @@ impl AnswersFrames for AloneController {
     ) -> Result<(), Cut> {
         let _ = desk;
         let answered = answer_alone(*reply.allocator(), &mut self.core, who, frame)?;
-        write_behind(reply, &answered, sequence, frame.sequence)?;
+        let written = write_behind(reply, &answered, sequence, frame.sequence);
+        drop(answered);
+        written?;
         Ok(())
     }
 }
@@ -234,7 +236,9 @@ impl AnswersFrames for KeptController {
         reply: &mut Vec<u8>,
     ) -> Result<(), Cut> {
         let answered = answer_kept(*reply.allocator(), &mut self.kept, desk, who, frame)?;
-        write_behind(reply, &answered, sequence, frame.sequence)?;
+        let written = write_behind(reply, &answered, sequence, frame.sequence);
+        drop(answered);
+        written?;
         Ok(())
     }
 }

@@ -12,7 +12,7 @@ returns-clause-next g c = ap (λ (p : Reply × Machine). p.1) c.in_ok-answered.e
 
 pub returns-clause-written : goal.returns-clause-written
 returns-clause-written g c = λ own.
-    c.in_ok-write_behind.ensures.ok ∙ ap (λ (p : Reply × Machine). c.args.reply.now.items ++ spelling (reply_frame c.args.sequence c.args.frame.now.sequence p.0)) c.in_ok-answered.ensures.ok
+    c.in_ok-written.ensures.ok ∙ ap (λ (p : Reply × Machine). c.args.reply.now.items ++ spelling (reply_frame c.args.sequence c.args.frame.now.sequence p.0)) c.in_ok-answered.ensures.ok
 
 pub returns-clause-follows : goal.returns-clause-follows
 returns-clause-follows g c = λ some told. absurd (false≢true some)
@@ -32,8 +32,8 @@ returns-in_err-answered-clause-stops g c = λ some told. absurd (false≢true so
 pub returns-in_err-answered-clause-room : goal.returns-in_err-answered-clause-room
 returns-in_err-answered-clause-room g c = room_calm _ c.args.desk.now
 
-pub returns-in_err-write_behind-clause-stops : goal.returns-in_err-write_behind-clause-stops
-returns-in_err-write_behind-clause-stops g c = λ some told. absurd (false≢true some)
+pub returns-in_err-written-clause-stops : goal.returns-in_err-written-clause-stops
+returns-in_err-written-clause-stops g c = λ some told. absurd (false≢true some)
 
-pub returns-in_err-write_behind-clause-room : goal.returns-in_err-write_behind-clause-room
-returns-in_err-write_behind-clause-room g c = room_calm _ c.args.desk.now
+pub returns-in_err-written-clause-room : goal.returns-in_err-written-clause-room
+returns-in_err-written-clause-room g c = room_calm _ c.args.desk.now

@@ -22,7 +22,7 @@ returns-clause-next g c = ap (λ (p : Reply × Machine). p.1) c.in_ok-answered.e
 
 pub returns-clause-written : goal.returns-clause-written
 returns-clause-written g c = λ own.
-    c.in_ok-write_behind.ensures.ok ∙ ap (λ (p : Reply × Machine). c.args.reply.now.items ++ spelling (reply_frame c.args.sequence c.args.frame.now.sequence p.0)) c.in_ok-answered.ensures.ok
+    c.in_ok-written.ensures.ok ∙ ap (λ (p : Reply × Machine). c.args.reply.now.items ++ spelling (reply_frame c.args.sequence c.args.frame.now.sequence p.0)) c.in_ok-answered.ensures.ok
 
 pub returns-clause-on : goal.returns-clause-on
 returns-clause-on g c =
@@ -44,5 +44,5 @@ returns-clause-stops g c = λ some told. c.answer_kept.ensures.stops told
 pub returns-in_err-answered-clause-stops : goal.returns-in_err-answered-clause-stops
 returns-in_err-answered-clause-stops g c = λ some told. c.answer_kept.ensures.stops told
 
-pub returns-in_err-write_behind-clause-stops : goal.returns-in_err-write_behind-clause-stops
-returns-in_err-write_behind-clause-stops g c = λ some told. c.answer_kept.ensures.stops told
+pub returns-in_err-written-clause-stops : goal.returns-in_err-written-clause-stops
+returns-in_err-written-clause-stops g c = λ some told. c.answer_kept.ensures.stops told
