@@ -6,6 +6,7 @@ use sample_runs::{ANN, Calls, MADE, NONE_FAILS, Spoken, bytes_of, words_of};
 use std::alloc::{AllocError, Global};
 use std::io::{self, ErrorKind, Read, Write};
 use std::process::Abort;
+use std::rt::Files;
 use std::test::Fail;
 use ziti_desk::{FileDesk, FileSource, Folder, Paths, Writes};
 
@@ -66,17 +67,18 @@ impl Read for Broken {
 const NEVER: u64 = u64::MAX;
 
 /// Runs a reader's bytes into a writer and a writer of notes, in the working folder, which `dry` leaves alone.
-fn ends_with<R: Read + Drop, W: Write>(
-    rt: &HostRuntime,
+fn ends_with<F: Files, R: Read + Drop, W: Write, N: Write>(
+    alloc: Global,
+    files: &F,
     reader: R,
     writer: &mut W,
-    noted: &mut Vec<u8>,
+    noted: &mut N,
 ) -> Result<Status, AllocError> {
     let mut source = FileSource::new(reader);
-    let folder = Folder::new(rt, Paths::WORKING_FOLDER);
+    let folder = Folder::new(files, Paths::WORKING_FOLDER);
     let mut desk = FileDesk::new(folder, Writes::new(writer), Writes::new(noted));
-    let words = words_of(rt.alloc(), &["dry"])?;
-    Ok(run(rt.alloc(), &words, &mut source, &mut desk))
+    let words = words_of(alloc, &["dry"])?;
+    Ok(run(alloc, &words, &mut source, &mut desk))
 }
 
 // A reader's bytes end so, with that note.
@@ -89,7 +91,7 @@ fn ends_so<R: Read + Drop, W: Write>(
     note: &[u8],
 ) -> Result<(), AllocError> {
     let mut noted = Vec::new(host.alloc());
-    let status = ends_with(host, reader, writer, &mut noted)?;
+    let status = ends_with(host.alloc(), host, reader, writer, &mut noted)?;
     is_status(rt, "adapters", status, wanted);
     are_bytes(rt, "adapters", noted.as_slice(), note);
     Ok(())
@@ -111,7 +113,7 @@ const FAULT: &[u8] = b"zitictl: write fault\n";
 
 const TWICE: [&str; 2] = ["ANN ANN", "MADE EXISTS"];
 
-const TRIALS: [Trial; 6] = [
+const TRIALS: &[Trial] = &[
     (1, NEVER, TWICE, [117, 117], Status::Done, b""),
     (7, NEVER, TWICE, [117, 17], Status::Done, b""),
     (4_096, NEVER, TWICE, [117, 2], Status::Done, b""),
@@ -159,7 +161,7 @@ fn check_trial(rt: &impl Abort, host: &HostRuntime, trial: &Trial) -> Result<(),
 
 #[test]
 fn says_all_to_full_and_partial_writers(rt: HostRuntime) -> Result<(), Fail> {
-    for trial in &TRIALS {
+    for trial in TRIALS {
         check_trial(&rt, &rt, trial)?;
     }
     Ok(())

@@ -4,9 +4,10 @@
 use crate::checks::{Ended, failing_desk, has_ended, has_no_folder, run_words};
 use ctrl_serve::Status;
 use sample_runs::{How, bytes_of, notes_of};
-use std::alloc::Global;
+use std::alloc::{AllocError, Global};
 use std::process::Abort;
 use std::test::Fail;
+use ziti_desk::MemDesk;
 
 /// A case: its name, the parts of the input and of what is said, the name of the status, the notes, and how the input is given.
 #[derive(Clone, Copy)]
@@ -49,7 +50,25 @@ fn status_of(name: &str) -> Status {
     }
 }
 
-// Runs words on an input that is given so, which ends so. A word alone, as `dry`, leaves the folder empty.
+// Runs words on an input that is given so, and a desk, which ends so. A word alone, as `dry`, leaves the folder empty.
+fn runs_on(
+    rt: &impl Abort,
+    alloc: Global,
+    what: &str,
+    words: &[&str],
+    input: &[u8],
+    how: How,
+    ended: Ended<'_>,
+    desk: &mut MemDesk,
+) -> Result<(), AllocError> {
+    let status = run_words(alloc, words, how, input, desk)?;
+    has_ended(rt, what, status, desk, ended);
+    if words.len() == 1 {
+        has_no_folder(rt, what, desk);
+    }
+    Ok(())
+}
+
 fn runs(
     rt: &impl Abort,
     alloc: Global,
@@ -58,14 +77,9 @@ fn runs(
     input: &[u8],
     how: How,
     ended: Ended<'_>,
-) -> Result<(), Fail> {
+) -> Result<(), AllocError> {
     let mut desk = failing_desk(alloc, &[how.call])?;
-    let status = run_words(alloc, words, how, input, &mut desk)?;
-    has_ended(rt, what, status, &desk, ended);
-    if words.len() == 1 {
-        has_no_folder(rt, what, &desk);
-    }
-    Ok(())
+    runs_on(rt, alloc, what, words, input, how, ended, &mut desk)
 }
 
 fn says(
@@ -75,7 +89,7 @@ fn says(
     case: Case<'_>,
     how: How,
     noted: &[u8],
-) -> Result<(), Fail> {
+) -> Result<(), AllocError> {
     let input = bytes_of(alloc, case.input)?;
     let said = bytes_of(alloc, case.said)?;
     let ended = (status_of(case.status), said.as_slice(), noted);
@@ -88,7 +102,7 @@ fn check_case(
     words: &[&str],
     case: Case<'_>,
     how: How,
-) -> Result<(), Fail> {
+) -> Result<(), AllocError> {
     let noted = notes_of(alloc, case.noted)?;
     says(rt, alloc, words, case, how, noted.as_slice())
 }

@@ -92,20 +92,15 @@ pub(crate) fn run_input(
     run_words(alloc, words, How::AMPLE, input, desk)
 }
 
-/// Runs the frames of a talk without a folder, and compares all replies.
-pub(crate) fn check_talk(
-    rt: &impl Abort,
-    alloc: Global,
-    what: &str,
-    talk: &Talk,
-) -> Result<(), Fail> {
+// Runs the frames of a talk without a folder, and compares all replies.
+fn check_talk(rt: &impl Abort, alloc: Global, what: &str, talk: &Talk) -> Result<(), AllocError> {
     let mut desk = steady_desk(alloc)?;
     let status = run_input(alloc, &["dry"], talk.input(), &mut desk)?;
     has_ended(rt, what, status, &desk, (Status::Done, talk.wanted(), b""));
     Ok(())
 }
 
-fn check_run(rt: &impl Abort, alloc: Global, run: &str) -> Result<(), Fail> {
+fn check_run(rt: &impl Abort, alloc: Global, run: &str) -> Result<(), AllocError> {
     let talk = Talk::of(alloc, run)?;
     check_talk(rt, alloc, run, &talk)
 }

@@ -1,8 +1,6 @@
 //! Rows of commands on policies, links, terminators and intercepts, and of what is then shown, and how many identities there may be.
 
-use crate::checks::{check_runs, check_talk};
-use sample_runs::Talk;
-use std::alloc::{AllocError, Global};
+use crate::checks::check_runs;
 use std::test::Fail;
 
 const POLICIES: &str = r##"
@@ -182,31 +180,16 @@ PAIR
 1610 {"identity":"ann","protocol":"tcp","address":"9.9.9.9","port":22} -> {"code":50,"name":"NoIntercept"}
 "##;
 
-/// How many identities there may be.
-const MOST_IDENTITIES: u32 = 2_048;
-
-/// Frames that make as many identities as there may be, and one more, with their replies: a number each, and a refusal.
-fn crowd(alloc: Global) -> Result<Talk, AllocError> {
-    let mut talk = Talk::new(alloc);
-    for number in 1..=MOST_IDENTITIES {
-        let body = format!(in alloc; "{{\"name\":\"i{number}\"}}")?;
-        talk.put_made(1000, body.as_str(), number)?;
-    }
-    let full = r#"{"code":24,"kind":"identity","name":"Full"}"#;
-    talk.put(1000, r#"{"name":"late"}"#, full)?;
-    Ok(talk)
-}
+/// As many identities as there may be get a number each, and one more is refused.
+const CROWD: &str = r#"
+each 1..2049 1000 {"name":"i$$"} -> {"no":$$}
+1000 {"name":"late"} -> {"code":24,"kind":"identity","name":"Full"}
+"#;
 
 #[test]
 fn answers_commands(rt: HostRuntime) -> Result<(), Fail> {
-    for runs in [POLICIES, BODIES, NETWORK, INTERCEPTS] {
+    for runs in [POLICIES, BODIES, NETWORK, INTERCEPTS, CROWD] {
         check_runs(&rt, rt.alloc(), runs)?;
     }
     Ok(())
-}
-
-#[test]
-fn makes_identities_up_to_the_limit(rt: HostRuntime) -> Result<(), Fail> {
-    let talk = crowd(rt.alloc())?;
-    check_talk(&rt, rt.alloc(), "crowd", &talk)
 }

@@ -6,6 +6,7 @@ use sample_runs::{Talk, push_reply, push_request};
 use std::alloc::{AllocError, Global};
 use std::process::Abort;
 use std::test::Fail;
+use ziti_desk::MemDesk;
 
 /// Traces behind the records that open session 0 by an administrator and session 1 by the identity ann, on a folder with the line, where her route
 /// has both links. A line is a session and a whole frame, the first 20 bytes of one, or the rest of it; or a session and the next reply to it.
@@ -132,25 +133,36 @@ fn exchange_of(alloc: Global, said: &[u8], lines: &str) -> Result<Exchange, Allo
     Ok(exchange)
 }
 
-// Replays the line, and then a trace on the folder that has it. All replies are compared.
+// Replays the line on a desk, and then a trace on the folder that has it. All replies are compared.
+fn replays_on(
+    rt: &impl Abort,
+    alloc: Global,
+    lines: &str,
+    line: &Talk,
+    exchange: &Exchange,
+    desk: &mut MemDesk,
+) -> Result<(), AllocError> {
+    let made = run_input(alloc, &["replay"], line.input(), desk)?;
+    has_ended(rt, lines, made, desk, (Status::Done, line.wanted(), b""));
+    let trace = exchange.trace.as_slice();
+    let status = run_input(alloc, &["replay", "--sessions"], trace, desk)?;
+    let ended = (Status::Done, exchange.wanted.as_slice(), b"".as_slice());
+    has_ended(rt, lines, status, desk, ended);
+    Ok(())
+}
+
 fn replays(
     rt: &impl Abort,
     alloc: Global,
     lines: &str,
     line: &Talk,
     exchange: &Exchange,
-) -> Result<(), Fail> {
+) -> Result<(), AllocError> {
     let mut desk = steady_desk(alloc)?;
-    let words = ["replay", "--sessions"];
-    let made = run_input(alloc, &["replay"], line.input(), &mut desk)?;
-    has_ended(rt, lines, made, &desk, (Status::Done, line.wanted(), b""));
-    let status = run_input(alloc, &words, exchange.trace.as_slice(), &mut desk)?;
-    let ended = (Status::Done, exchange.wanted.as_slice(), b"".as_slice());
-    has_ended(rt, lines, status, &desk, ended);
-    Ok(())
+    replays_on(rt, alloc, lines, line, exchange, &mut desk)
 }
 
-fn check_lines(rt: &impl Abort, alloc: Global, line: &Talk, lines: &str) -> Result<(), Fail> {
+fn check_lines(rt: &impl Abort, alloc: Global, line: &Talk, lines: &str) -> Result<(), AllocError> {
     let exchange = exchange_of(alloc, line.wanted(), lines)?;
     replays(rt, alloc, lines, line, &exchange)
 }

@@ -135,16 +135,9 @@ SECOND_GONE
 "##;
 
 #[test]
-fn goes_over_the_least_path_where_its_own_fails(rt: HostRuntime) -> Result<(), Fail> {
-    check_runs(&rt, rt.alloc(), OVER_OTHER_PATHS)
-}
-
-#[test]
-fn ends_where_no_path_is_left(rt: HostRuntime) -> Result<(), Fail> {
-    check_runs(&rt, rt.alloc(), WITHOUT_A_PATH)
-}
-
-#[test]
-fn judges_each_circuit_by_itself(rt: HostRuntime) -> Result<(), Fail> {
-    check_runs(&rt, rt.alloc(), EACH_BY_ITSELF)
+fn goes_over_the_least_path_or_ends_where_its_own_fails(rt: HostRuntime) -> Result<(), Fail> {
+    for runs in [OVER_OTHER_PATHS, WITHOUT_A_PATH, EACH_BY_ITSELF] {
+        check_runs(&rt, rt.alloc(), runs)?;
+    }
+    Ok(())
 }

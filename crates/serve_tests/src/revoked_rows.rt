@@ -86,11 +86,9 @@ GONE
 "##;
 
 #[test]
-fn adds_loads_to_costs(rt: HostRuntime) -> Result<(), Fail> {
-    check_runs(&rt, rt.alloc(), LOADS)
-}
-
-#[test]
-fn ends_circuits_with_what_granted_them(rt: HostRuntime) -> Result<(), Fail> {
-    check_runs(&rt, rt.alloc(), REVOKED)
+fn adds_loads_to_costs_and_ends_with_what_granted(rt: HostRuntime) -> Result<(), Fail> {
+    for runs in [LOADS, REVOKED] {
+        check_runs(&rt, rt.alloc(), runs)?;
+    }
+    Ok(())
 }

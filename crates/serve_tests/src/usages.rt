@@ -3,13 +3,13 @@
 use crate::checks::{Ended, failing_desk, has_ended, has_no_folder, run_input};
 use ctrl_serve::Status;
 use sample_runs::ANN;
-use std::alloc::Global;
+use std::alloc::{AllocError, Global};
 use std::process::Abort;
 use std::test::Fail;
 
 /// Numbers of loads, and the counts lines of them, which an independent model of the rules gave. In that of 126 four times a circuit goes over another
 /// path, ten end without one, and twenty are revoked. The load says the same line each time.
-const LOADS: [(&str, &str); 5] = [
+const LOADS: &[(&str, &str)] = &[
     (
         "0",
         "{\"circuits\":1,\"grants\":4118,\"identities\":200,\"links\":29,\"policies\":30,\"routers\":12,\"services\":40,\"terminators\":40}\n",
@@ -30,7 +30,7 @@ const LINE_OF_7: &str =
     "{\"circuits\":1,\"grants\":4558,\"identities\":200,\"links\":27,\"policies\":30,\"routers\":12,\"services\":40,\"terminators\":40}\n";
 
 /// Lines of words that are none of the table.
-const NO_LINES: [&[&str]; 21] = [
+const NO_LINES: &[&[&str]] = &[
     &[],
     &[""],
     &["Dry"],
@@ -64,7 +64,7 @@ fn ends(
     words: &[&str],
     failing: &[u32],
     ended: Ended<'_>,
-) -> Result<(), Fail> {
+) -> Result<(), AllocError> {
     let mut desk = failing_desk(alloc, failing)?;
     let status = run_input(alloc, words, ANN, &mut desk)?;
     has_ended(rt, "words", status, &desk, ended);
@@ -72,27 +72,26 @@ fn ends(
     Ok(())
 }
 
+// A load says its line.
+fn says_counts(rt: &impl Abort, alloc: Global, number: &str, line: &str) -> Result<(), AllocError> {
+    let words = ["load", number];
+    ends(rt, alloc, &words, &[], (Status::Done, line.as_bytes(), b""))
+}
+
 #[test]
 fn says_the_counts_of_the_loads(rt: HostRuntime) -> Result<(), Fail> {
     for (number, line) in LOADS {
-        let ended = (Status::Done, line.as_bytes(), b"".as_slice());
-        ends(&rt, rt.alloc(), &["load", number], &[], ended)?;
+        says_counts(&rt, rt.alloc(), number, line)?;
     }
     Ok(())
 }
 
-#[test]
-fn tells_a_line_that_was_not_taken(rt: HostRuntime) -> Result<(), Fail> {
-    let unsaid = (
-        Status::WriteFault,
-        b"".as_slice(),
-        b"zitictl: write fault\n".as_slice(),
-    );
-    ends(&rt, rt.alloc(), &["load", "7"], &[0], unsaid)
-}
+/// A line that was not taken is told.
+const UNSAID: Ended<'static> = (Status::WriteFault, b"", b"zitictl: write fault\n");
 
 #[test]
-fn tells_words_that_are_no_line(rt: HostRuntime) -> Result<(), Fail> {
+fn tells_a_line_that_was_not_taken_and_words_that_are_none(rt: HostRuntime) -> Result<(), Fail> {
+    ends(&rt, rt.alloc(), &["load", "7"], &[0], UNSAID)?;
     for words in NO_LINES {
         ends(&rt, rt.alloc(), words, &[], (Status::Usage, b"", USAGE))?;
     }
