@@ -85,10 +85,20 @@ fn report_value(alloc: Global, advice: &Advice, entities: &Entities) -> Result<V
     put(&mut members, alloc, "online", online)?;
     let policies = marks_value(alloc, &advice.policies)?;
     put(&mut members, alloc, "policies", policies)?;
-    put(&mut members, alloc, "rule", Value::from(rule_number(advice.rule)))?;
+    put(
+        &mut members,
+        alloc,
+        "rule",
+        Value::from(rule_number(advice.rule)),
+    )?;
     let terminators = numbers_value(alloc, &advice.terminators)?;
     put(&mut members, alloc, "terminators", terminators)?;
-    put(&mut members, alloc, "yes", Value::from(advice.rule.is_none()))?;
+    put(
+        &mut members,
+        alloc,
+        "yes",
+        Value::from(advice.rule.is_none()),
+    )?;
     Ok(Value::Object(members))
 }
 
