@@ -7,3 +7,4 @@ pub mod WaitingPlaces
 pub mod KnownCosts
 pub mod NetworkPaths
 pub mod VisitLaws
+pub mod PlaceSteps

@@ -1,6 +1,7 @@
-ghost use Rattle.std.specs.Prelude.{◌≡◌, ◌↔◌, ◌<◌, length, find, IfOk, IfSome, IsNone};
+ghost use Rattle.std.specs.Prelude.{◌≡◌, ◌↔◌, ◌<◌, nat_lt, length, drop, find, IfOk, IfSome, IsNone};
+ghost use Rattle.std.specs.List.{prefix_len, AllByRecursion};
 ghost use Rattle.ctrl_model.specs.Claims.{no_path};
-ghost use Rattle.path_certificate.specs.Graphs.{potential};
+ghost use Rattle.path_certificate.specs.Graphs.{potential, IsStep};
 ghost use Rattle.path_search.specs.Searches.{IsLeast, IsFirst};
 ghost use Rattle.path_search.specs.Supports.{falls_from};
 
@@ -17,12 +18,27 @@ fn falls_from(graph: &Graph, target: u16, potentials: &[u64], place: u16, step: 
     step.from == place && graph.counts(target, step) && is_tight(potentials, step)
 }
 
+// The steps behind those that leave a place before this one.
+fn steps_on(graph: &Graph, place: u16) -> &[Step]
+    ensures rest { result.now ≡ drop (prefix_len (λ s. nat_lt s.from place) graph.now.steps) graph.now.steps }
+    ensures each { AllByRecursion (IsStep (length graph.now.through)) result.now }
+{
+    let steps = graph.steps();
+    let before = steps.partition_point(
+        |step: &Step| -> bool
+            ensures { result ≡ nat_lt step.now.from place }
+        { step.from < place },
+    );
+    let (_, on) = steps.split_at(before);
+    on
+}
+
 // The first of the tight steps from the place: the one over the least link.
 fn first_tight(graph: &Graph, target: u16, potentials: &[u64], place: u16) -> Option<Step>
     requires { length potentials.now ≡ length graph.now.through }
     ensures { result ≡ find (falls_from graph.now.through target potentials.now place) graph.now.steps }
 {
-    let steps = graph.steps();
+    let steps = steps_on(graph, place);
     'steps: for step in steps {
         if falls_from(graph, target, potentials, place, step) {
             return Some(*step);
