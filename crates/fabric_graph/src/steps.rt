@@ -1,4 +1,5 @@
 ghost use Rattle.std.specs.Prelude.{◌≡◌, ◌+◌, ◌++◌, ◌≤◌, length, map, None, IfOk, IfSome, IfNone, OnOk, true, false};
+ghost use Rattle.std.specs.Bool.{OnTrue};
 ghost use Rattle.ctrl_model.specs.Networks.{is_on, link_cost};
 ghost use Rattle.ctrl_model.specs.Numbered.{at};
 ghost use Rattle.ctrl_model.specs.ValidState.{each_passes};
@@ -21,8 +22,18 @@ pub struct End {
     pub entry: u32,
 }
 
-// The place of the router that has the number.
-fn place_of(routers: &[RouterSeen], number: u32) -> Option<usize>
+// Whether the router that has the number stands at a place.
+fn stands_at(routers: &[RouterSeen], place: usize, number: u32) -> bool
+    ensures { OnTrue result (IsRouterPlace number routers.now place) }
+{
+    match routers.get(place) {
+        Some(router) => router.no.0 == number,
+        None => false,
+    }
+}
+
+// The place of the router that has the number, by halving.
+fn searched_place(routers: &[RouterSeen], number: u32) -> Option<usize>
     requires { AreRouters routers.now }
     ensures found { IfSome result (λ i. IsRouterPlace number routers.now i) }
     ensures absent { IfNone result (at (map numbered routers.now) number ≡ None) }
@@ -30,6 +41,19 @@ fn place_of(routers: &[RouterSeen], number: u32) -> Option<usize>
     routers
         .binary_search_by_key(&number, |router| router.no.0)
         .ok()
+}
+
+// The place of the router that has the number. Where no number before it was given up it stands where it is looked for first.
+fn place_of(routers: &[RouterSeen], number: u32) -> Option<usize>
+    requires { AreRouters routers.now }
+    ensures found { IfSome result (λ i. IsRouterPlace number routers.now i) }
+    ensures absent { IfNone result (at (map numbered routers.now) number ≡ None) }
+{
+    let likely = (number as usize).saturating_sub(1);
+    if stands_at(routers, likely, number) {
+        return Some(likely);
+    }
+    searched_place(routers, number)
 }
 
 // The end of a link at a router. None where the router is absent or not connected.

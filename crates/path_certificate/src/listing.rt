@@ -53,17 +53,25 @@ impl Model for StepLists {
     ghost view = { λ l. l.lists.items };
 }
 
-// So many lists without steps.
-fn no_lists(alloc: Global, places: usize) -> Result<Vec<StepList>, AllocError>
+// So many lists without steps, with room for some in each.
+fn no_lists(alloc: Global, places: usize, room: usize) -> Result<Vec<StepList>, AllocError>
     ensures { IfOk result (λ v. v.items ≡ replicate places []) }
 {
     let mut lists = Vec::with_capacity(alloc, places)?;
     'places: for _ in 0..places {
         lists.push(StepList {
-            steps: Vec::new(alloc),
+            steps: Vec::with_capacity(alloc, room)?,
         })?;
     }
     Ok(lists)
+}
+
+// How many steps each of some places has, were they shared out evenly.
+fn even_share(steps: usize, places: usize) -> usize {
+    if places == 0 {
+        return 0;
+    }
+    steps / places
 }
 
 // Adds a step to the list of a place, if it has one.
@@ -86,7 +94,8 @@ impl StepLists {
     ) -> Result<StepLists, AllocError>
         ensures { IfOk result (AreListed end places steps.now) }
     {
-        let mut lists = no_lists(alloc, places)?;
+        let room = even_share(steps.len(), places);
+        let mut lists = no_lists(alloc, places, room)?;
         'steps: for step in steps {
             push_step(&mut lists, place_at(end, step), *step)?;
         }

@@ -4,7 +4,7 @@ use Rattle.ctrl_model.specs.Numbered.{at}
 use Rattle.record_tables.proofs.PlaceLaws.{searched_place}
 use Rattle.record_tables.proofs.ChangedLists.{ok_found, ok_absent}
 use Rattle.fabric_graph.specs.Routers.{IsRouterPlace, numbered}
-use Rattle.fabric_graph.proofs.steps.place_of.Goals as goal
+use Rattle.fabric_graph.proofs.steps.searched_place.Goals as goal
 
 pub returns-clause-found : goal.returns-clause-found
 returns-clause-found c =
