@@ -1,5 +1,7 @@
-ghost use Rattle.std.specs.Prelude.{◌≡◌, filter, IfOk};
+ghost use Rattle.std.specs.Prelude.{◌≡◌, ◌||◌, filter, IfOk};
+ghost use Rattle.circuits.specs.CircuitTables.{KeepsCircuits};
 ghost use Rattle.ctrl_model.specs.Numbered.{numbers};
+ghost use Rattle.ctrl_model.specs.Walks.{is_among};
 ghost use Rattle.circuit_settling.specs.OtherLinks.{granted_at, keeps_at};
 ghost use Rattle.circuit_settling.specs.LookedCircuits.{goes_none, going_by, is_looked_at, needs, term_needs};
 
@@ -8,8 +10,8 @@ use crate::going::going_after;
 use crate::granting::GrantsAfter;
 use crate::settling::going_among;
 use crate::staying::Present;
-use circuits::{CircuitView, Circuits, CircuitsAfter};
-use ctrl_model::{CircuitNo, Numbers};
+use circuits::{Circuit, CircuitView, Circuits, CircuitsAfter};
+use ctrl_model::Numbers;
 use record_tables::is_among;
 use std::alloc::{AllocError, Global};
 use terminators::{TermView, Terminators};
@@ -58,38 +60,33 @@ fn needs(pairs: &Pairs, terminators: &Terminators, circuit: &CircuitView) -> boo
         }
 }
 
-// Whether the circuit of a number is looked at: it needs one of some pairs, or its path is taken.
+// Whether a circuit is looked at: it needs one of some pairs, or its path is taken.
 fn is_looked_at(
-    circuits: &Circuits,
     terminators: &Terminators,
     pairs: &Pairs,
     pathless: &Numbers,
-    no: CircuitNo,
+    number: u32,
+    circuit: &Circuit,
 ) -> bool
-    ensures { result ≡ is_looked_at circuits.now.circuits.rows terminators.now.terminators.rows pairs.now pathless.now no.0 }
+    ensures { result ≡ (needs pairs.now terminators.now.terminators.rows circuit.now || is_among number pathless.now) }
 {
-    let needs_one = match circuits.seen(no) {
-        Some(circuit) => needs(pairs, terminators, &circuit),
-        None => false,
-    };
-    needs_one || is_among(no.0, pathless.as_slice())
+    needs(pairs, terminators, &CircuitView::of(circuit)) || is_among(number, pathless.as_slice())
 }
 
-// Those of some numbers whose circuits are looked at.
+// The numbers of the circuits that are looked at.
 fn looked_among(
     alloc: Global,
     circuits: &Circuits,
     terminators: &Terminators,
     pairs: &Pairs,
     pathless: &Numbers,
-    numbers: &Numbers,
 ) -> Result<Numbers, AllocError>
-    ensures { IfOk result (λ ns. ns ≡ filter (is_looked_at circuits.now.circuits.rows terminators.now.terminators.rows pairs.now pathless.now) numbers.now) }
+    ensures looked { IfOk result (λ ns. ns ≡ numbers (filter (λ row. needs pairs.now terminators.now.terminators.rows row.1 || is_among row.0 pathless.now) circuits.now.circuits.rows)) }
+    ensures keeps { KeepsCircuits circuits.now }
 {
     let mut looked = Vec::new(alloc);
-    'circuits: for number in numbers.as_slice() {
-        let no = CircuitNo(*number);
-        if is_looked_at(circuits, terminators, pairs, pathless, no) {
+    'circuits: for (number, circuit) in circuits.rows() {
+        if is_looked_at(terminators, pairs, pathless, *number, circuit) {
             looked.push(*number)?;
         }
     }
@@ -107,8 +104,7 @@ pub fn looked_at(
 ) -> Result<Numbers, AllocError>
     ensures { IfOk result (λ ns. ns ≡ filter (is_looked_at circuits.now.circuits.rows terminators.now.terminators.rows pairs.now pathless.now) (numbers circuits.now.circuits.rows)) }
 {
-    let numbers = circuits.numbers(alloc)?;
-    looked_among(alloc, circuits, terminators, pairs, pathless, &numbers)
+    looked_among(alloc, circuits, terminators, pairs, pathless)
 }
 
 /// The circuits that do not stay as they are, of those that are looked at: of these alone it is asked. An Err is want of memory.

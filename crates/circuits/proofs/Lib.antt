@@ -3,3 +3,4 @@ pub mod CircuitLaws
 pub mod ChangeLaws
 pub mod MoveLaws
 pub mod JudgedMoves
+pub mod LossLaws

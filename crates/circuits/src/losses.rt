@@ -41,11 +41,12 @@ fn names_entity(circuit: &Circuit, kind: Kind, number: u32) -> bool
 fn goes_over(circuit: &Circuit, links: &Numbers) -> bool
     ensures { result ≡ goes_over links.now circuit.now }
 {
-    circuit
-        .links
-        .as_slice()
-        .iter()
-        .any(|link| is_among(*link, links.as_slice()))
+    !links.is_empty()
+        && circuit
+            .links
+            .as_slice()
+            .iter()
+            .any(|link| is_among(*link, links.as_slice()))
 }
 
 /// Whether a circuit cannot stay as it is after a loss.

@@ -18,6 +18,7 @@ use ctrl_model::{CircuitNo, Kind, Numbers, limit};
 use grant_denorm::Counted;
 use record_tables::NumberedTable;
 use std::alloc::{AllocError, Global};
+use std::collections::btree_map::Iter;
 use std::marker::Model;
 use thiserror::Error;
 
@@ -136,6 +137,15 @@ impl Circuits {
         ensures keeps { KeepsCircuits self.now }
     {
         self.granted.numbers(alloc)
+    }
+
+    /// The circuits under their numbers, in the order of the numbers.
+    pub fn rows(&self) -> Iter<'_, u32, Circuit>
+        ensures rows { result ≡ self.now.circuits.rows }
+        // The numbers ascend from 1 below the next one, and the limit is kept.
+        ensures keeps { KeepsCircuits self.now }
+    {
+        self.granted.rows()
     }
 
     /// How many circuits end at the terminator of each number: the count of the number and 0.

@@ -1,11 +1,11 @@
-use Rattle.std.proofs.Common.{◌∙◌, ap}
-use Rattle.std.specs.List.{filter}
+use Rattle.std.proofs.Common.{◌∙◌}
 use Rattle.std.proofs.lemmas.Result.{IfOk-weaker}
-use Rattle.circuit_settling.specs.LookedCircuits.{is_looked_at}
+use Rattle.circuit_settling.proofs.GoingLaws.{looked_are}
 use Rattle.circuit_settling.proofs.looking.looked_at.Goals as goal
 
 pub returns : goal.returns
 returns c =
+    let made = c.looked_among.ensures in
     IfOk-weaker c.looked_among.result _ _
-    (λ ns e. e ∙ ap (filter (is_looked_at c.args.circuits.now.circuits.rows c.args.terminators.now.terminators.rows c.args.pairs.now c.args.pathless.now)) c.in_ok-numbers.ensures.all)
-    c.looked_among.ensures
+    (λ ns e. e ∙ looked_are c.args.pairs.now c.args.terminators.now.terminators.rows c.args.pathless.now c.args.circuits.now.circuits.rows c.args.circuits.now.circuits.next made.keeps.ordered)
+    made.looked
