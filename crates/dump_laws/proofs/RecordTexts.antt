@@ -261,9 +261,11 @@ terminator_one s v n e h =
 way_clear : (s : State) → ValidState s → (from : ℕ) (links : List ℕ) → IsClear (way_on s from links)
 way_clear s v from [] = tt
 way_clear s v from (n ∷ ns) =
-    let next = router_behind s from n in
-    (lit≤ tt, clear_both (name_of kind.Link s n) (44 ∷ (name_of kind.Router s next ++ way_on s next ns)) (referred s v kind.Link n)
-    (lit≤ tt, clear_both (name_of kind.Router s next) (way_on s next ns) (referred s v kind.Router next) (way_clear s v next ns)))
+    let next = router_behind s from n in (
+      lit≤ tt,
+      clear_both (name_of kind.Link s n) (44 ∷ (name_of kind.Router s next ++ way_on s next ns)) (referred s v kind.Link n)
+          (lit≤ tt, clear_both (name_of kind.Router s next) (way_on s next ns) (referred s v kind.Router next) (way_clear s v next ns)),
+    )
 
 user_clear : (s : State) → ValidState s → (c : Circuit) → IsClear (circuit_user s c)
 user_clear s v c =

@@ -1,6 +1,5 @@
 -- The lines of a dump are read as the frames of its commands, and without a fault.
-use Rattle.std.proofs.Common.{◌≡◌, ℕ, ◌+◌, ◌≤◌, ◌&&◌, Bool, true, false, not, cond, inl, inr, List, [], ◌∷◌, ◌++◌, flat_map, length, codes, Option, None, Some, Ok, refl, sym, ap, ◌∙◌, subst, append_assoc, append-nil, is_some}
-use Rattle.std.specs.List.{list_all}
+use Rattle.std.proofs.Common.{◌≡◌, ℕ, ◌+◌, ◌≤◌, ◌&&◌, Bool, true, false, cond, inl, inr, List, [], ◌∷◌, ◌++◌, flat_map, length, Option, None, Some, Ok, refl, sym, ap, ◌∙◌, subst, append_assoc, append-nil, is_some}
 use Rattle.std.proofs.lemmas.Bool.{and_parts}
 use Rattle.channel_frame.specs.declared.frames.Frame.{Frame}
 use Rattle.ctrl_model.specs.declared.commands.Command.{Command}
@@ -13,8 +12,6 @@ use Rattle.ctrl_model.specs.ValidState.{ValidState}
 use Rattle.ctrl_model.proofs.NumberedLaws.{by_is_some}
 use Rattle.command_bodies.specs.BodyTexts.{body_object, body_text}
 use Rattle.serde_json.specs.Written.{compact_text}
-use Rattle.frame_lines.specs.declared.lines.Line.{Line}
-use Rattle.frame_lines.specs.declared.lines.LineFault.{LineFault}
 use Rattle.frame_lines.specs.TypeNames.{name_numbered}
 use Rattle.frame_lines.specs.TextLines.{lines_of}
 use Rattle.frame_lines.specs.TextReading.{fault_from, fault_said, frames_from, frames_said, next_after}
