@@ -1,5 +1,5 @@
 -- Commands that are answered one after the other, section by section.
-use Rattle.std.proofs.Common.{◌≡◌, ℕ, ◌+◌, ◌<◌, ◌≤◌, ◌&&◌, Bool, true, false, cond, not, List, [], ◌∷◌, ◌++◌, flat_map, length, Option, None, refl, sym, ◌∙◌, ap, subst, arith, append-nil, append_assoc, nat_lt}
+use Rattle.std.proofs.Common.{◌≡◌, ℕ, ◌<◌, ◌≤◌, ◌&&◌, Bool, true, false, cond, not, List, [], ◌∷◌, ◌++◌, flat_map, length, Option, None, refl, sym, ◌∙◌, ap, subst, arith, append-nil, append_assoc, nat_lt}
 use Rattle.std.proofs.lemmas.Bool.{and_parts, and_from, lt-ltb}
 use Rattle.std.specs.List.{filter, list_all}
 use Rattle.ctrl_model.specs.Controller.{answer, carry}

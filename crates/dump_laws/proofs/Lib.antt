@@ -8,3 +8,8 @@ pub mod MadeTerminators
 pub mod MadePolicies
 pub mod MadeIntercepts
 pub mod MadeAgain
+pub mod ClearTexts
+pub mod SaidLines
+pub mod BodyLengths
+pub mod RecordTexts
+pub mod SaidTexts

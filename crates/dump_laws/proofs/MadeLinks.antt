@@ -16,7 +16,7 @@ use Rattle.ctrl_model.specs.Numbered.{Table, no_rows, at, is_present, with_new}
 use Rattle.ctrl_model.specs.RecordCommands.{after_create, after_edit}
 use Rattle.ctrl_model.specs.Rules.{or_then, refuse_if, at_number, unknown_if_absent, exists_if_present}
 use Rattle.ctrl_model.specs.Settling.{settle}
-use Rattle.ctrl_model.specs.State.{State, Router, Link}
+use Rattle.ctrl_model.specs.State.{State, Link}
 use Rattle.ctrl_model.specs.Tables.{named}
 use Rattle.ctrl_model.specs.ValidState.{ValidState}
 use Rattle.ctrl_model.proofs.DistinctLaws.{same_bytes}

@@ -1,2 +1,3 @@
 pub mod AnsweredInTurn
 pub mod NamedCounts
+pub mod SaidDumps
