@@ -1,8 +1,7 @@
 -- Steps stand by the places that they leave: those of the places before one stand before its own.
-use Rattle.std.proofs.Common.{◌≡◌, ℕ, ◌+◌, ◌<◌, ◌≤◌, Bool, cond, true, false, List, [], ◌∷◌, length, drop, get_or, nat_lt, ◌==◌, ◌&&◌, ◌||◌, refl, sym, ◌∙◌, ap, arith, suc, zero, Option, Some, None}
+use Rattle.std.proofs.Common.{◌≡◌, ℕ, ◌+◌, ◌<◌, ◌≤◌, Bool, cond, true, false, List, [], ◌∷◌, length, drop, get_or, nat_lt, ◌==◌, ◌&&◌, refl, sym, ◌∙◌, ap, arith, suc, zero, Some}
 use Rattle.std.proofs.lemmas.Bool.{and_parts}
 use Rattle.std.proofs.lemmas.Bool.Decides.{nat_tests}
-use Rattle.std.proofs.lemmas.List.Elements.{All-get_or}
 use Rattle.std.specs.List.{AllByRecursion, find, list_all, prefix_len}
 use Rattle.path_certificate.specs.declared.graph.Step.{Step}
 use Rattle.path_certificate.specs.Graphs.{before, is_ordered}

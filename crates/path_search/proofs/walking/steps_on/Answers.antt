@@ -1,4 +1,4 @@
-use Rattle.std.proofs.Common.{rules, of_calls, ◌≡◌, ℕ, ◌<◌, ◌≤◌, Bool, true, false, sym, ap, ◌∙◌, List, drop, length, nat_lt, get_or, arith}
+use Rattle.std.proofs.Common.{rules, of_calls, ◌≡◌, true, sym, ap, ◌∙◌, List, drop, length, nat_lt, arith}
 use Rattle.std.proofs.lemmas.Fn.{always_returns_same}
 use Rattle.std.proofs.lemmas.List.Sums.{prefix_len_is}
 use Rattle.std.specs.List.{prefix_len}
