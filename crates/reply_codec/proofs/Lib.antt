@@ -5,3 +5,4 @@ pub mod AddressTexts
 pub mod WordLengths
 pub mod ClaimLimits
 pub mod Integers
+pub mod TokenLaws

@@ -40,7 +40,7 @@ pub length-string : (s : List ℕ) → length (compact_text (string s)) ≤ 6 * 
 length-string [] = lit≤ tt
 length-string (x ∷ s) = omega (arith, length-string_step x s, length-string s)
 
-length-comma : (later : Bool) → length (comma_if later) ≤ 1
+pub length-comma : (later : Bool) → length (comma_if later) ≤ 1
 length-comma true = lit≤ tt
 length-comma false = lit≤ tt
 

@@ -2,11 +2,12 @@
 //! denials in JSON are written for others too.
 #![tactic(auto)]
 
-mod item_values;
 mod lists;
 mod members;
 mod refusal_bodies;
 mod reply_bodies;
+mod spelled;
+mod words;
 mod worked;
 mod writing;
 

@@ -1,43 +1,14 @@
-ghost use Rattle.std.specs.Prelude.{◌≡◌, ◌≤◌, IfOk, length};
-ghost use Rattle.serde_json.specs.Data.{string, object, member, no_members};
-ghost use Rattle.serde_json.specs.View.{view};
+ghost use Rattle.std.specs.Prelude.{◌≡◌, ◌≤◌, ◌++◌, OnOk, length};
 ghost use Rattle.serde_json.specs.Written.{compact_text};
 ghost use Rattle.ctrl_model.specs.declared.refusals.Refusal.TheVariants as refusal;
-ghost use Rattle.reply_codec.specs.ReplyBody.{natural, kind_word, reason_word, denial_number, denial_name, plain_refusal, refusal_object};
+ghost use Rattle.reply_codec.specs.ReplyBody.{denial_number, denial_name, plain_refusal, refusal_object};
+ghost use Rattle.reply_codec.specs.ReplyTokens.{tokens_of};
 
-use crate::lists::name_value;
-use crate::members::put_text;
+use crate::members::MemberValue::{Number, Word};
+use crate::members::{Member, MemberValue, put_object};
 use ctrl_model::{Denial, Field, Kind, Name, Reason, Refusal};
-use serde_json::{Map, Value, put};
-use std::alloc::{AllocError, Global};
-
-fn kind_word(kind: Kind) -> &'static str
-    ensures { result.now ≡ kind_word kind }
-{
-    match kind {
-        Kind::Identity => "identity",
-        Kind::Service => "service",
-        Kind::Router => "router",
-        Kind::Link => "link",
-        Kind::ServicePolicy => "service_policy",
-        Kind::EdgeRouterPolicy => "edge_router_policy",
-        Kind::ServiceEdgeRouterPolicy => "service_edge_router_policy",
-        Kind::Terminator => "terminator",
-        Kind::Circuit => "circuit",
-        Kind::Attribute => "attribute",
-    }
-}
-
-fn reason_word(reason: Reason) -> &'static str
-    ensures { result.now ≡ reason_word reason }
-{
-    match reason {
-        Reason::NotObject => "NotObject",
-        Reason::Missing => "Missing",
-        Reason::WrongKind => "WrongKind",
-        Reason::Unknown => "Unknown",
-    }
-}
+use json::Writer;
+use std::alloc::AllocError;
 
 /// The number of a denial (docs/FORMATS.md, "Refusals").
 pub fn denial_number(denial: Denial) -> u32
@@ -74,84 +45,100 @@ fn denial_name(denial: Denial) -> &'static str
     }
 }
 
-fn plain_value(alloc: Global, code: u32, name: &str) -> Result<Value, AllocError>
+// Writes a refusal that has a number and a name alone.
+fn put_plain(writer: &mut Writer, code: u32, name: &'static str) -> Result<(), AllocError>
     requires { length name.now ≤ 64 }
-    ensures value { IfOk result (λ v. view v ≡ plain_refusal code name.now) }
-    ensures few { IfOk result (λ _. length (compact_text (plain_refusal code name.now)) ≤ 1_000) }
+    ensures written { OnOk result (writer.new.tokens ≡ writer.old.tokens ++ tokens_of (plain_refusal code name.now)) }
+    ensures before { writer.new.before ≡ writer.old.before }
+    ensures few { OnOk result (length (compact_text (plain_refusal code name.now)) ≤ 2_000) }
 {
-    let mut members = Map::new(alloc);
-    put(&mut members, alloc, "code", Value::from(code))?;
-    put_text(&mut members, alloc, "name", name)?;
-    Ok(Value::Object(members))
+    put_object(
+        writer,
+        &[Member("code", Number(code)), Member("name", Word(name))],
+    )
 }
 
-fn bad_body_value(alloc: Global, field: Field, reason: Reason) -> Result<Value, AllocError>
-    ensures value { IfOk result (λ v. view v ≡ refusal_object (refusal.BadBody field reason)) }
-    ensures few { IfOk result (λ _. length (compact_text (refusal_object (refusal.BadBody field reason))) ≤ 1_000) }
+fn put_bad_body(writer: &mut Writer, field: Field, reason: Reason) -> Result<(), AllocError>
+    ensures written { OnOk result (writer.new.tokens ≡ writer.old.tokens ++ tokens_of (refusal_object (refusal.BadBody field reason))) }
+    ensures before { writer.new.before ≡ writer.old.before }
+    ensures few { OnOk result (length (compact_text (refusal_object (refusal.BadBody field reason))) ≤ 2_000) }
 {
-    let mut members = Map::new(alloc);
-    put(&mut members, alloc, "code", Value::from(11u32))?;
-    put_text(&mut members, alloc, "field", field.word())?;
-    put_text(&mut members, alloc, "name", "BadBody")?;
-    put_text(&mut members, alloc, "reason", reason_word(reason))?;
-    Ok(Value::Object(members))
+    put_object(
+        writer,
+        &[
+            Member("code", Number(11)),
+            Member("field", MemberValue::Field(field)),
+            Member("name", Word("BadBody")),
+            Member("reason", MemberValue::Reason(reason)),
+        ],
+    )
 }
 
-fn unknown_value(alloc: Global, field: Field) -> Result<Value, AllocError>
-    ensures value { IfOk result (λ v. view v ≡ refusal_object (refusal.Unknown field)) }
-    ensures few { IfOk result (λ _. length (compact_text (refusal_object (refusal.Unknown field))) ≤ 1_000) }
+fn put_unknown(writer: &mut Writer, field: Field) -> Result<(), AllocError>
+    ensures written { OnOk result (writer.new.tokens ≡ writer.old.tokens ++ tokens_of (refusal_object (refusal.Unknown field))) }
+    ensures before { writer.new.before ≡ writer.old.before }
+    ensures few { OnOk result (length (compact_text (refusal_object (refusal.Unknown field))) ≤ 2_000) }
 {
-    let mut members = Map::new(alloc);
-    put(&mut members, alloc, "code", Value::from(21u32))?;
-    put_text(&mut members, alloc, "field", field.word())?;
-    put_text(&mut members, alloc, "name", "Unknown")?;
-    Ok(Value::Object(members))
+    put_object(
+        writer,
+        &[
+            Member("code", Number(21)),
+            Member("field", MemberValue::Field(field)),
+            Member("name", Word("Unknown")),
+        ],
+    )
 }
 
-fn unknown_ref_value(alloc: Global, field: Field, name: &Name) -> Result<Value, AllocError>
-    ensures value { IfOk result (λ v. view v ≡ refusal_object (refusal.UnknownRef field name.now)) }
-    ensures few { IfOk result (λ _. length (compact_text (refusal_object (refusal.UnknownRef field name.now))) ≤ 1_000) }
+fn put_unknown_ref(writer: &mut Writer, field: Field, name: &Name) -> Result<(), AllocError>
+    ensures written { OnOk result (writer.new.tokens ≡ writer.old.tokens ++ tokens_of (refusal_object (refusal.UnknownRef field name.now))) }
+    ensures before { writer.new.before ≡ writer.old.before }
+    ensures few { OnOk result (length (compact_text (refusal_object (refusal.UnknownRef field name.now))) ≤ 2_000) }
 {
-    let mut members = Map::new(alloc);
-    put(&mut members, alloc, "code", Value::from(23u32))?;
-    put_text(&mut members, alloc, "field", field.word())?;
-    put_text(&mut members, alloc, "name", "UnknownRef")?;
-    let absent = name_value(alloc, name)?;
-    put(&mut members, alloc, "ref", absent)?;
-    Ok(Value::Object(members))
+    put_object(
+        writer,
+        &[
+            Member("code", Number(23)),
+            Member("field", MemberValue::Field(field)),
+            Member("name", Word("UnknownRef")),
+            Member("ref", MemberValue::Name(name)),
+        ],
+    )
 }
 
-fn full_value(alloc: Global, kind: Kind) -> Result<Value, AllocError>
-    ensures value { IfOk result (λ v. view v ≡ refusal_object (refusal.Full kind)) }
-    ensures few { IfOk result (λ _. length (compact_text (refusal_object (refusal.Full kind))) ≤ 1_000) }
+fn put_full(writer: &mut Writer, kind: Kind) -> Result<(), AllocError>
+    ensures written { OnOk result (writer.new.tokens ≡ writer.old.tokens ++ tokens_of (refusal_object (refusal.Full kind))) }
+    ensures before { writer.new.before ≡ writer.old.before }
+    ensures few { OnOk result (length (compact_text (refusal_object (refusal.Full kind))) ≤ 2_000) }
 {
-    let mut members = Map::new(alloc);
-    put(&mut members, alloc, "code", Value::from(24u32))?;
-    put_text(&mut members, alloc, "kind", kind_word(kind))?;
-    put_text(&mut members, alloc, "name", "Full")?;
-    Ok(Value::Object(members))
+    put_object(
+        writer,
+        &[
+            Member("code", Number(24)),
+            Member("kind", MemberValue::Kind(kind)),
+            Member("name", Word("Full")),
+        ],
+    )
 }
 
-/// The object of a refusal: at most 1,000 bytes.
-pub(crate) fn refusal_value(alloc: Global, refusal: &Refusal) -> Result<Value, AllocError>
-    ensures value { IfOk result (λ v. view v ≡ refusal_object refusal.now) }
-    ensures few { IfOk result (λ _. length (compact_text (refusal_object refusal.now)) ≤ 1_000) }
+// Writes the object of a refusal: at most 2,000 bytes. An `Err` is want of memory.
+pub(crate) fn put_refusal(writer: &mut Writer, refusal: &Refusal) -> Result<(), AllocError>
+    ensures written { OnOk result (writer.new.tokens ≡ writer.old.tokens ++ tokens_of (refusal_object refusal.now)) }
+    ensures before { writer.new.before ≡ writer.old.before }
+    ensures few { OnOk result (length (compact_text (refusal_object refusal.now)) ≤ 2_000) }
 {
     match refusal {
-        Refusal::UnsupportedType => plain_value(alloc, 10, "UnsupportedType"),
-        Refusal::BadBody { field, reason } => bad_body_value(alloc, *field, *reason),
-        Refusal::NotPermitted => plain_value(alloc, 12, "NotPermitted"),
-        Refusal::Exists => plain_value(alloc, 20, "Exists"),
-        Refusal::Unknown { field } => unknown_value(alloc, *field),
-        Refusal::UnknownRef { field, name } => unknown_ref_value(alloc, *field, name),
-        Refusal::Full { kind } => full_value(alloc, *kind),
-        Refusal::SameRouter => plain_value(alloc, 25, "SameRouter"),
-        Refusal::NotBindable => plain_value(alloc, 26, "NotBindable"),
-        Refusal::Denied(denial) => {
-            plain_value(alloc, denial_number(*denial), denial_name(*denial))
-        }
-        Refusal::JournalFull => plain_value(alloc, 40, "JournalFull"),
-        Refusal::MarkFull => plain_value(alloc, 41, "MarkFull"),
-        Refusal::NoIntercept => plain_value(alloc, 50, "NoIntercept"),
+        Refusal::UnsupportedType => put_plain(writer, 10, "UnsupportedType"),
+        Refusal::BadBody { field, reason } => put_bad_body(writer, *field, *reason),
+        Refusal::NotPermitted => put_plain(writer, 12, "NotPermitted"),
+        Refusal::Exists => put_plain(writer, 20, "Exists"),
+        Refusal::Unknown { field } => put_unknown(writer, *field),
+        Refusal::UnknownRef { field, name } => put_unknown_ref(writer, *field, name),
+        Refusal::Full { kind } => put_full(writer, *kind),
+        Refusal::SameRouter => put_plain(writer, 25, "SameRouter"),
+        Refusal::NotBindable => put_plain(writer, 26, "NotBindable"),
+        Refusal::Denied(denial) => put_plain(writer, denial_number(*denial), denial_name(*denial)),
+        Refusal::JournalFull => put_plain(writer, 40, "JournalFull"),
+        Refusal::MarkFull => put_plain(writer, 41, "MarkFull"),
+        Refusal::NoIntercept => put_plain(writer, 50, "NoIntercept"),
     }
 }

@@ -4,9 +4,10 @@ ghost use Rattle.reply_codec.specs.ReplyBody.{reply_body};
 ghost use Rattle.reply_codec.specs.ReplyFrame.{is_success, reply_frame};
 ghost use Rattle.reply_codec.specs.ReplyLimits.{keeps_limits};
 
-use crate::reply_bodies::reply_value;
+use crate::reply_bodies::put_reply;
 use channel_frame::{Frame, Header, Headers, encode_behind};
 use ctrl_model::{Bytes, Reply};
+use json::Writer;
 use std::alloc::{AllocError, Global};
 
 /// The content type of a reply.
@@ -18,18 +19,17 @@ const REPLY_FOR: u32 = 1;
 /// The key of the header with the flag of success.
 const SUCCESS: u32 = 2;
 
+/// How much room the body of a reply gets at first, in bytes: most replies need no more.
+const FIRST_ROOM: usize = 256;
+
 fn body_bytes(alloc: Global, reply: &Reply) -> Result<Bytes, AllocError>
     requires { keeps_limits reply.now ≡ true }
     ensures value { IfOk result (λ b. b ≡ reply_body reply.now) }
     ensures few { IfOk result (λ b. length b ≤ longest_body) }
 {
-    match reply_value(alloc, reply)? {
-        None => Ok(Bytes::of(Vec::new(alloc))),
-        Some(value) => {
-            let text = value.to_vec(alloc)?;
-            Ok(Bytes::of(text))
-        }
-    }
+    let mut writer = Writer::new(Vec::with_capacity(alloc, FIRST_ROOM)?);
+    put_reply(&mut writer, reply)?;
+    Ok(Bytes::of(writer.into_inner()))
 }
 
 fn is_success(reply: &Reply) -> bool
