@@ -1,5 +1,4 @@
 pub mod TakenLaws
-pub mod BackwardSteps
 pub mod LaterNumbers
 pub mod SettledLaws
 pub mod LoadLaws

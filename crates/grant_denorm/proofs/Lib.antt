@@ -1,5 +1,7 @@
-pub mod CountLaws
+pub mod FlatLaws
+pub mod FlatCounts
+pub mod RowSteps
+pub mod KeptNumbers
 pub mod MemberLaws
 pub mod DeltaLaws
-pub mod RowLaws
 pub mod EqualCounts

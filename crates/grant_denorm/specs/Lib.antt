@@ -1,4 +1,5 @@
 pub mod PairCounts
+pub mod FlatRows
 pub mod Deltas
 pub mod Steps
 pub mod CountsAfter

@@ -1,100 +1,151 @@
-ghost use Rattle.std.specs.Prelude.{◌≡◌, ◌<◌, ◌==◌, [], length, nat_lt, map, filter, IfOk, OnOk, OnErr, IsOk};
+ghost use Rattle.std.specs.Prelude.{◌≡◌, ℕ, List, ◌+◌, ◌<◌, ◌==◌, [], cond, true, false, length, nat_lt, map, filter, IfOk, IfErr, OnOk, OnErr, IsOk};
 ghost use Rattle.ctrl_model.specs.Limits.{most_number};
 ghost use Rattle.grant_denorm.specs.PairCounts.{count_of, AreCounts, AreThose, Raises, Lowers};
+ghost use Rattle.grant_denorm.specs.FlatRows.{StandsAt, WouldStandAt, NumbersAscend, AreRows, count_in, row_at, pairs_of};
 
+use crate::rows::Row;
 use ctrl_model::Numbers;
 use std::alloc::{AllocError, Global};
-use std::collections::BTreeMap;
 use std::marker::Model;
 
 /// Counts above 0 of pairs of numbers. Contracts see the pairs with their counts, in order.
 #[derive(Drop)]
 pub struct Counted {
-    counts: BTreeMap<(u32, u32), u32>,
+    rows: Vec<Row>,
+    pairs: u64,
+    near: usize,
 }
 
 impl Model for Counted {
-    ghost use Rattle.std.specs.Prelude.{List, ℕ};
-    ghost use Rattle.grant_denorm.specs.PairCounts.{AreCounts};
+    ghost use Rattle.std.specs.Prelude.{◌≡◌, List, ℕ, length};
+    ghost use Rattle.grant_denorm.specs.FlatRows.{AreRows, pairs_of};
 
     ghost Value = { List ((ℕ × ℕ) × ℕ) };
 
-    ghost view = { λ c. c.counts.entries };
+    ghost view = { λ c. pairs_of c.rows.items };
 
-    ghost invariant = { λ c. AreCounts c.counts.entries };
+    ghost invariant = { λ c. AreRows c.rows.items × (c.pairs ≡ length (pairs_of c.rows.items)) };
 }
 
-fn count_in(counts: &BTreeMap<(u32, u32), u32>, a: u32, b: u32) -> u32
-    ensures { result ≡ count_of counts.now.entries a b }
+// Where the row of a left number is, or where it would stand. It is looked for at a place first, and behind the others.
+fn place_of(rows: &[Row], near: usize, left: u32) -> Result<usize, usize>
+    requires { NumbersAscend rows.now }
+    ensures found { IfOk result (StandsAt [] rows.now left) }
+    ensures absent { IfErr result (WouldStandAt [] rows.now left) }
 {
-    counts.get(&(a, b)).copied().unwrap_or(0)
-}
-
-fn raise_in(counts: &mut BTreeMap<(u32, u32), u32>, a: u32, b: u32) -> Result<(), AllocError>
-    requires room { count_of counts.old.entries a b < most_number }
-    requires counts { AreCounts counts.old.entries }
-    ensures ok { OnOk result (Raises counts.old.entries counts.new.entries a b) }
-    ensures counts { AreCounts counts.new.entries }
-    ensures err { OnErr result (counts.new.entries ≡ counts.old.entries) }
-    ensures there { 0 < count_of counts.old.entries a b → IsOk result }
-{
-    if let Some(count) = counts.get_mut(&(a, b)) {
-        *count += 1;
-        return Ok(());
+    if let Some(row) = rows.get(near) {
+        if row.left() == left {
+            return Ok(near);
+        }
     }
-    counts.insert((a, b), 1)?;
+    if let Some(last) = rows.last() {
+        if last.left() < left {
+            return Err(rows.len());
+        }
+    }
+    rows.binary_search_by_key(&left, |row| row.left())
+}
+
+// The count of a pair, 0 where it has none.
+fn pair_count(rows: &[Row], near: usize, a: u32, b: u32) -> u32
+    requires { AreRows rows.now }
+    ensures { result ≡ count_of (pairs_of rows.now) a b }
+{
+    match place_of(rows, near, a) {
+        Ok(at) => rows[at].count(b),
+        Err(_) => 0,
+    }
+}
+
+// Puts in a row of one pair.
+fn put_row(rows: &mut Vec<Row>, at: usize, a: u32, b: u32) -> Result<(), AllocError>
+    requires rows { AreRows rows.old.items }
+    requires place { WouldStandAt [] rows.old.items a at }
+    ensures rows { AreRows rows.new.items }
+    ensures ok { OnOk result (Raises (pairs_of rows.old.items) (pairs_of rows.new.items) a b) }
+    ensures more { OnOk result (length (pairs_of rows.new.items) ≡ length (pairs_of rows.old.items) + 1) }
+    ensures err { OnErr result (rows.new.items ≡ rows.old.items) }
+{
+    let row = Row::of_one(*rows.allocator(), a, b)?;
+    rows.insert(at, row)?;
     Ok(())
 }
 
-fn lower_in(counts: &mut BTreeMap<(u32, u32), u32>, a: u32, b: u32)
-    requires there { 0 < count_of counts.old.entries a b }
-    requires counts { AreCounts counts.old.entries }
-    ensures lowers { Lowers counts.old.entries counts.new.entries a b }
-    ensures counts { AreCounts counts.new.entries }
+// Raises the count of a right number in the row at a place, and tells whether it was not there. Where no pair may come in, it takes none.
+fn raise_at(rows: &mut Vec<Row>, at: usize, a: u32, b: u32, full: bool) -> Result<bool, AllocError>
+    requires rows { AreRows rows.old.items }
+    requires place { StandsAt [] rows.old.items a at }
+    requires room { count_of (pairs_of rows.old.items) a b < most_number }
+    ensures rows { AreRows rows.new.items }
+    ensures ok { OnOk result (Raises (pairs_of rows.old.items) (pairs_of rows.new.items) a b) }
+    ensures more { IfOk result (λ came. length (pairs_of rows.new.items) ≡ length (pairs_of rows.old.items) + cond came 1 0) }
+    ensures full { full ≡ true → IfOk result (λ came. came ≡ false) }
+    ensures err { OnErr result (rows.new.items ≡ rows.old.items) }
+    ensures there { 0 < count_of (pairs_of rows.old.items) a b → IsOk result }
 {
-    if count_in(counts, a, b) == 1 {
-        counts.remove(&(a, b));
-    } else if let Some(count) = counts.get_mut(&(a, b)) {
-        *count -= 1;
+    rows[at].raise(b, full)
+}
+
+// Lowers the count of a right number in the row at a place, and tells whether the pair is gone.
+fn lower_at(rows: &mut Vec<Row>, at: usize, a: u32, b: u32) -> bool
+    requires rows { AreRows rows.old.items }
+    requires place { StandsAt [] rows.old.items a at }
+    requires there { 0 < count_of (pairs_of rows.old.items) a b }
+    ensures rows { AreRows rows.new.items }
+    ensures lowers { Lowers (pairs_of rows.old.items) (pairs_of rows.new.items) a b }
+    ensures fewer { length (pairs_of rows.new.items) + cond result 1 0 ≡ length (pairs_of rows.old.items) }
+    ensures place { StandsAt [] rows.new.items a at }
+{
+    rows[at].lower(b)
+}
+
+// Takes out the row at a place if it is empty.
+fn drop_empty(rows: &mut Vec<Row>, at: usize)
+    requires rows { AreRows rows.old.items }
+    requires place { at < length rows.old.items }
+    ensures rows { AreRows rows.new.items }
+    ensures same { pairs_of rows.new.items ≡ pairs_of rows.old.items }
+{
+    if rows[at].is_empty() {
+        let row = rows.remove(at);
+        drop(row);
     }
 }
 
-// The pairs ascend, so those with this left number stand together.
-fn row_in(counts: &BTreeMap<(u32, u32), u32>, alloc: Global, a: u32) -> Result<Vec<u32>, AllocError>
-    requires { AreCounts counts.now.entries }
-    ensures { IfOk result (λ v. AreThose (λ b. nat_lt 0 (count_of counts.now.entries a b)) v.items) }
+// The right numbers of a left number.
+fn row_in(rows: &[Row], near: usize, alloc: Global, a: u32) -> Result<Vec<u32>, AllocError>
+    requires { AreRows rows.now }
+    ensures { IfOk result (λ v. v.items ≡ map (λ (x : ℕ × ℕ). x.0) (row_at rows.now a)) }
 {
-    let mut row = Vec::new(alloc);
-    'pairs: for (pair, _) in counts.range((a, 0)..) {
-        if pair.0 != a {
-            break;
-        }
-        row.push(pair.1)?;
+    match place_of(rows, near, a) {
+        Ok(at) => rows[at].numbers(alloc),
+        Err(_) => Ok(Vec::new(alloc)),
     }
-    Ok(row)
 }
 
-// The left numbers of the pairs with this right number.
-fn column_in(
-    counts: &BTreeMap<(u32, u32), u32>,
-    alloc: Global,
-    b: u32,
-) -> Result<Vec<u32>, AllocError>
-    ensures { IfOk result (λ v. v.items ≡ map (λ e. e.0.0) (filter (λ e. e.0.1 == b) counts.now.entries)) }
+// The left numbers of the rows that have a right number.
+fn column_in(rows: &[Row], alloc: Global, b: u32) -> Result<Vec<u32>, AllocError>
+    requires { AreRows rows.now }
+    ensures { IfOk result (λ v. v.items ≡ map (λ (r : ℕ × List (ℕ × ℕ)). r.0) (filter (λ r. nat_lt 0 (count_in r.1 b)) rows.now)) }
 {
     let mut column = Vec::new(alloc);
-    'pairs: for (pair, _) in counts.iter() {
-        if pair.1 == b {
-            column.push(pair.0)?;
+    'rows: for row in rows {
+        if row.count(b) > 0 {
+            column.push(row.left())?;
         }
     }
     Ok(column)
 }
 
-fn copy_of(counts: &BTreeMap<(u32, u32), u32>) -> Result<BTreeMap<(u32, u32), u32>, AllocError>
-    ensures { IfOk result (λ m. m.entries ≡ counts.now.entries) }
+// Equal rows.
+fn copy_of(rows: &[Row], alloc: Global) -> Result<Vec<Row>, AllocError>
+    ensures { IfOk result (λ v. v.items ≡ rows.now) }
 {
-    counts.clone()
+    let mut copied = Vec::new(alloc);
+    'rows: for row in rows {
+        copied.push(row.copy()?)?;
+    }
+    Ok(copied)
 }
 
 impl Counted {
@@ -103,7 +154,9 @@ impl Counted {
         ensures { result ≡ [] }
     {
         Counted {
-            counts: BTreeMap::new(alloc),
+            rows: Vec::new(alloc),
+            pairs: 0,
+            near: 0,
         }
     }
 
@@ -114,7 +167,23 @@ impl Counted {
         ensures err { OnErr result (self.new ≡ self.old) }
         ensures there { 0 < count_of self.old a b → IsOk result }
     {
-        raise_in(&mut self.counts, a, b)
+        match place_of(self.rows.as_slice(), self.near, a) {
+            Ok(at) => {
+                let full = self.pairs == u64::MAX;
+                let came = raise_at(&mut self.rows, at, a, b, full)?;
+                self.near = at;
+                self.pairs += u64::from(came);
+            }
+            Err(at) => {
+                let Some(pairs) = self.pairs.checked_add(1) else {
+                    return Err(AllocError);
+                };
+                put_row(&mut self.rows, at, a, b)?;
+                self.near = at;
+                self.pairs = pairs;
+            }
+        }
+        Ok(())
     }
 
     /// Lowers the count of a pair that is there by one.
@@ -122,14 +191,19 @@ impl Counted {
         requires { 0 < count_of self.old a b }
         ensures { Lowers self.old self.new a b }
     {
-        lower_in(&mut self.counts, a, b);
+        if let Ok(at) = place_of(self.rows.as_slice(), self.near, a) {
+            self.near = at;
+            let gone = lower_at(&mut self.rows, at, a, b);
+            drop_empty(&mut self.rows, at);
+            self.pairs -= u64::from(gone);
+        }
     }
 
     /// The count of a pair, 0 where it has none.
     pub fn count(&self, a: u32, b: u32) -> u32
         ensures { result ≡ count_of self.now a b }
     {
-        count_in(&self.counts, a, b)
+        pair_count(self.rows.as_slice(), self.near, a, b)
     }
 
     /// How many pairs have a count above 0. The pairs ascend, and each count is above 0.
@@ -137,14 +211,14 @@ impl Counted {
         ensures number { result ≡ length self.now }
         ensures counts { AreCounts self.now }
     {
-        self.counts.len() as u64
+        self.pairs
     }
 
     /// The right numbers of the pairs with this left number, ascending. It reads these pairs alone.
     pub fn row(&self, alloc: Global, a: u32) -> Result<Numbers, AllocError>
         ensures { IfOk result (AreThose (λ b. nat_lt 0 (count_of self.now a b))) }
     {
-        let row = row_in(&self.counts, alloc, a)?;
+        let row = row_in(self.rows.as_slice(), self.near, alloc, a)?;
         Ok(Numbers::of(row))
     }
 
@@ -152,7 +226,7 @@ impl Counted {
     pub fn column(&self, alloc: Global, b: u32) -> Result<Numbers, AllocError>
         ensures { IfOk result (AreThose (λ a. nat_lt 0 (count_of self.now a b))) }
     {
-        let column = column_in(&self.counts, alloc, b)?;
+        let column = column_in(self.rows.as_slice(), alloc, b)?;
         Ok(Numbers::of(column))
     }
 
@@ -160,7 +234,11 @@ impl Counted {
     pub fn copy(&self) -> Result<Counted, AllocError>
         ensures { IfOk result (λ c. c ≡ self.now) }
     {
-        let counts = copy_of(&self.counts)?;
-        Ok(Counted { counts })
+        let rows = copy_of(self.rows.as_slice(), *self.rows.allocator())?;
+        Ok(Counted {
+            rows,
+            pairs: self.pairs,
+            near: self.near,
+        })
     }
 }

@@ -6,6 +6,7 @@ mod applying;
 mod counts;
 mod deltas;
 mod laws;
+mod rows;
 mod worked;
 
 pub use after::CountedAfter;

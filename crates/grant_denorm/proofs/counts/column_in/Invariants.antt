@@ -1,9 +1,8 @@
-use Rattle.std.proofs.Common.{◌≡◌, ◌==◌, ◌++◌, map}
+use Rattle.std.proofs.Common.{◌≡◌, ℕ, List, nat_lt, map, take}
 use Rattle.std.specs.List.{filter}
+use Rattle.grant_denorm.specs.FlatRows.{count_in}
 use Rattle.grant_denorm.proofs.counts.column_in.Given as goal
 
--- the left numbers so far and those of the pairs that are left are all
-abbrev pub invariant-pairs : goal.invariant-pairs
-invariant-pairs l =
-    l.column.items ++ map (λ e. e.0.0) (filter (λ e. e.0.1 == l.b) l.pair-iterator)
-    ≡ map (λ e. e.0.0) (filter (λ e. e.0.1 == l.b) l.counts.entries)
+-- the left numbers of the rows so far that have the right number
+abbrev pub invariant-rows : goal.invariant-rows
+invariant-rows l = l.column.items ≡ map (λ (r : ℕ × List (ℕ × ℕ)). r.0) (filter (λ r. nat_lt 0 (count_in r.1 l.b)) (take l.row-index l.rows))

@@ -1,14 +1,11 @@
-use Rattle.std.proofs.Common.{◌≡◌, [], ap, ◌∙◌}
-use Rattle.grant_denorm.proofs.RowLaws.{front_row, front_row-other, row_ended}
+use Rattle.std.proofs.Common.{◌≡◌, ℕ, [], map, IfOk, sym, ◌∙◌, ap, subst}
+use Rattle.grant_denorm.proofs.FlatLaws.{value_read, value_absent}
 use Rattle.grant_denorm.proofs.counts.row_in.Goals as goal
-use Rattle.grant_denorm.proofs.counts.row_in.Goals.{in-None, in-Some+then-pair-a}
 
-pub returns : goal.returns
-returns c =
-    row_ended c.args.counts.now.entries c.pairs.pair-iterator c.pairs.row.items c.args.a c.requires c.pairs.invariant
-    (elim c.match-next.branch as (λ _. front_row c.args.a c.pairs.pair-iterator ≡ []) [
-      | in-None w ↦ ap (front_row c.args.a) w.in-None.ensures.steps.0
-      | in-Some+then-pair-a w ↦
-          ap (front_row c.args.a) w.in-Some.ensures.steps
-          ∙ front_row-other c.args.a (w.in-Some.pair.now, w.in-Some.field-0-1.now) c.next.new.self w.if-pair-a.true
-    ])
+pub returns-in-Ok : goal.returns-in-Ok
+returns-in-Ok c =
+    subst (λ row. IfOk c.numbers.result (λ v. v.items ≡ map (λ (x : ℕ × ℕ). x.0) row))
+    (sym (value_read [] c.args.rows.now c.requires.ascends c.args.a c.in-Ok.at c.in-Ok.ensures.found c.index-rows-at.result c.index-rows-at.is)) c.numbers.ensures
+
+pub returns-in-Err : goal.returns-in-Err
+returns-in-Err c = c.new.ensures.items ∙ ap (map (λ (x : ℕ × ℕ). x.0)) (sym (value_absent [] c.args.rows.now c.args.a c.in-Err.field-0 c.in-Err.ensures.absent))
