@@ -5,6 +5,7 @@ use Rattle.ctrl_model.specs.State.{Circuit}
 use Rattle.ctrl_model.specs.Walks.{is_among}
 use Rattle.circuits.specs.LostCircuits.{goes_over}
 
+-- a circuit goes over none of no links
 over_none : (ls : List ℕ) → list_any (λ l. is_among l []) ls ≡ false
 over_none [] = refl
 over_none (l ∷ ls) = over_none ls

@@ -222,7 +222,7 @@ impl Counted {
         Ok(Numbers::of(row))
     }
 
-    /// The left numbers of the pairs with this right number, ascending. It reads all pairs.
+    /// The left numbers of the pairs with this right number, ascending. It looks for it among the pairs of each left number.
     pub fn column(&self, alloc: Global, b: u32) -> Result<Numbers, AllocError>
         ensures { IfOk result (AreThose (λ a. nat_lt 0 (count_of self.now a b))) }
     {
