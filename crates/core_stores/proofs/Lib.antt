@@ -1,4 +1,5 @@
 pub mod TakenLaws
+pub mod BackwardSteps
 pub mod LaterNumbers
 pub mod SettledLaws
 pub mod LoadLaws

@@ -1,4 +1,4 @@
-use Rattle.std.proofs.Common.{◌-◌, sym, ◌∙◌, arith, subst}
+use Rattle.std.proofs.Common.{sym, ◌∙◌, arith, subst}
 use Rattle.grant_denorm.specs.FlatRows.{IsRow, LowersIn}
 use Rattle.grant_denorm.proofs.RowSteps.{count_read, count_above, lowered_row, lowered_count, removed_row, removed_count}
 use Rattle.grant_denorm.proofs.rows.lower_at.Goals as goal
@@ -22,10 +22,10 @@ returns-clause-row c =
     let read = count_read c.args.rights.now.items c.requires.row c.args.right c.args.at c.requires.place c.index.result.now c.index.ensures in
     let above = count_above c.args.rights.now.items c.requires.row c.args.right c.args.at c.requires.place in
     let test = c.if-count-eq1.false in
-    lowered_row c.args.rights.now.items c.requires.row c.args.right c.args.at (c.index.result.now.1 - 1) c.requires.place (omega (arith, read, above, test))
+    lowered_row c.args.rights.now.items c.requires.row c.args.right c.args.at _ c.requires.place (omega (arith, read, above, test))
 
 pub returns-clause-lowers : goal.returns-clause-lowers
 returns-clause-lowers c =
     let read = count_read c.args.rights.now.items c.requires.row c.args.right c.args.at c.requires.place c.index.result.now c.index.ensures in
     let above = count_above c.args.rights.now.items c.requires.row c.args.right c.args.at c.requires.place in
-    lowered_count c.args.rights.now.items c.requires.row c.args.right c.args.at (c.index.result.now.1 - 1) c.requires.place (omega (arith, read, above))
+    lowered_count c.args.rights.now.items c.requires.row c.args.right c.args.at _ c.requires.place (omega (arith, read, above))
