@@ -60,12 +60,23 @@ fn put(store: &mut Policies, policy: Policy) -> Result<(), AllocError> {
     Ok(())
 }
 
+// Puts a policy of the name p.
+fn put_named(store: &mut Policies, alloc: Global) -> Result<(), Fail> {
+    let name = Name::of(alloc, b"p")?;
+    put(store, policy(alloc, name))?;
+    Ok(())
+}
+
+fn lists_one(rt: &impl Abort, alloc: Global, store: &Policies) -> Result<(), AllocError> {
+    let numbers = store.numbers(alloc, Kind::ServicePolicy)?;
+    are_numbers(rt, numbers.as_slice(), &[1]);
+    Ok(())
+}
+
 #[test]
 fn lists_the_numbers_of_policies(rt: HostRuntime) -> Result<(), Fail> {
     let mut store = Policies::new(rt.alloc());
-    let name = Name::of(rt.alloc(), b"p")?;
-    put(&mut store, policy(rt.alloc(), name))?;
-    let numbers = store.numbers(rt.alloc(), Kind::ServicePolicy)?;
-    are_numbers(&rt, numbers.as_slice(), &[1]);
+    put_named(&mut store, rt.alloc())?;
+    lists_one(&rt, rt.alloc(), &store)?;
     Ok(())
 }
