@@ -70,22 +70,19 @@ fn tell_planned<D: Desk>(
     }
 }
 
-// The plan of the commands of a text in the state of a folder that was opened, which is let go.
+// The plan of the commands of a text in the state of a folder that was opened, on whose core they are carried out.
 fn plan_opened(
     alloc: Global,
-    core: Core,
+    core: &mut Core,
     format: Format,
-    puts: Batch,
+    puts: &Batch,
     input: &[u8],
 ) -> Result<Result<Plan, LineFault>, AllocError>
-    requires { IsOpened core format puts }
-    ensures { IsPlanned result core.state input.now }
+    requires { IsOpened core.old format puts.now }
+    ensures { IsPlanned result core.old.state input.now }
 {
-    let mut core = core;
-    let rows = rows_of(alloc, format, &puts)?;
-    let planned = plan_commands(alloc, &mut core, rows.as_slice(), input);
-    drop(core);
-    planned
+    let rows = rows_of(alloc, format, puts)?;
+    plan_commands(alloc, core, rows.as_slice(), input)
 }
 
 // Plans the commands of a text in the state to which the folder opens, by reading it alone. Where it opens to none, that is noted and
@@ -98,8 +95,9 @@ fn plan_input<D: Desk>(alloc: Global, input: &[u8], desk: &mut D) -> Status
 {
     match peek_rows(alloc, desk) {
         Ok(read) => {
-            let (core, format, puts) = read;
-            let planned = plan_opened(alloc, core, format, puts, input);
+            let (mut core, format, puts) = read;
+            let planned = plan_opened(alloc, &mut core, format, &puts, input);
+            drop(core);
             tell_planned(alloc, planned, desk)
         }
         Err(fault) => tell_closed(fault, desk),
